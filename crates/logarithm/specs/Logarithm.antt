@@ -1,0 +1,36 @@
+-- G.727, sections 6.2.2 and 6.2.4: LOG, SUBTB, ADDA and ANTILOG, the way from a difference to its normalized logarithm and back.
+-- Assumes nothing.
+use Prim.Native.Nat.{ℕ, _+_, _-_, _%_}
+use lib.Dec.{eqb}
+use Rattle.words.specs.Notation.{pick, _<<_, _>>_}
+use Rattle.words.specs.Length.{bitLength}
+use Rattle.logarithm.specs.declared.Logged.{Logged}
+
+-- "Convert difference signal from the linear to the logarithmic domain": DL, with 4 exponent bits and 7 mantissa bits, and DS.
+-- EXP's table, "14, 16384 ≤ DQM; 13, 8192 ≤ DQM ≤ 16383; .. 0, 0 ≤ DQM ≤ 1", is the number of bits of DQM >> 1
+unfoldable pub LOG : ℕ → Logged
+LOG D =
+    let DS = D >> 15 in
+    let DQM = pick (eqb DS 0) D ((65536 - D) % 32768) in
+    let EXP = bitLength (DQM >> 1) in
+    let MANT = ((DQM << 7) >> EXP) % 128 in
+    record { dl = (EXP << 7) + MANT; ds = DS }
+
+-- "Scale logarithmic version of difference signal by subtracting scale factor": DLN, 12 bits, two's complement
+unfoldable pub SUBTB : ℕ → ℕ → ℕ
+SUBTB DL Y = (DL + 4096 - (Y >> 2)) % 4096
+
+-- "Addition of scale factor to logarithmic version of quantized difference signal": DQL, 12 bits, two's complement
+unfoldable pub ADDA : ℕ → ℕ → ℕ
+ADDA DQLN Y = (DQLN + (Y >> 2)) % 4096
+
+-- "Convert quantized difference signal from the logarithmic to the linear domain": DQ, a sign at place s and a magnitude below it.
+-- s is 14 in G.727; in G.726, whose DQ is a bit wider, it is 15. DEX is at most 14 where DS = 0 (proofs/Range.antt)
+unfoldable pub ANTILOG : ℕ → ℕ → ℕ → ℕ
+ANTILOG s DQL DQS =
+    let DS = DQL >> 11 in
+    let DEX = (DQL >> 7) % 16 in
+    let DMN = DQL % 128 in
+    let DQT = (1 << 7) + DMN in
+    let DQMAG = pick (eqb DS 0) ((DQT << 7) >> (14 - DEX)) 0 in
+    (DQS << s) + DQMAG

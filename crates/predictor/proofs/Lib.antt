@@ -1,0 +1,3 @@
+pub mod Mantissa
+pub mod Held
+pub mod Range

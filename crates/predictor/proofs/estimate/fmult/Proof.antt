@@ -1,0 +1,61 @@
+-- `predictor::estimate::fmult` meets its contract. The product of two mantissas is at most 63 * 63, so it fits.
+-- Assumes nothing.
+use borrow.Author.Needs.{needs}
+use Prim.Native.Nat.{_*_, _%_, _≤_}
+use native.Mathlib.Nat.{mul-le-mul}
+use native.Mathlib.Omega.{arith}
+use Rattle.predictor.specs.Estimate.{FMULT}
+use Rattle.predictor.specs.Float.{floatOf}
+use Rattle.predictor.proofs.estimate.fmult.Statement.{statement}
+use Rattle.predictor.proofs.estimate.fmult.Tie as tie
+
+product : (c : tie.After-struct-known2) → c .before .before .before .before .args .srn % 64 * c .before .before .float-of .result .mant ≤ 63 * 63
+product c =
+    let srnmant : c .before .before .before .before .args .srn % 64 ≤ 63 = omega arith in
+    mul-le-mul srnmant (c .before .before .float-of .ensures .small)
+
+sub-choose : tie.Need-sub-choose
+sub-choose c = search needs
+
+choose-requires : tie.Need-choose-requires
+choose-requires c κs = search needs
+
+float-of-requires : tie.Need-float-of-requires
+float-of-requires c κs = search needs
+
+add-wanexp : tie.Need-add-wanexp
+add-wanexp c = search needs
+
+mul-wanmant : tie.Need-mul-wanmant
+mul-wanmant c = omega (arith, product c)
+
+add-wanmant : tie.Need-add-wanmant
+add-wanmant c = omega (arith, product c)
+
+product-magnitude-requires : tie.Need-product-magnitude-requires
+product-magnitude-requires c κs = omega (arith, product c)
+
+minus-requires : tie.Need-minus-requires
+minus-requires c κs = search needs
+
+choose-requires-2 : tie.Need-choose-requires-2
+choose-requires-2 c κs = search needs
+
+returns : tie.Need-returns
+unfolding FMULT floatOf
+returns c = rw (c .choose2 .ensures .is, c .before .minus .ensures, c .before .before .product-magnitude .ensures, c .before .before .before .before .before .float-of .ensures .is, c .before .before .before .before .before .before .choose .ensures .is)
+
+pub fmult-spec : {M : Type 1} → statement M
+fmult-spec =
+    tie.close
+    (tie.spec
+    sub-choose
+    choose-requires
+    float-of-requires
+    add-wanexp
+    mul-wanmant
+    add-wanmant
+    product-magnitude-requires
+    minus-requires
+    choose-requires-2
+    returns)

@@ -1,0 +1,13 @@
+-- `predictor::reconstruct::xor` meets its contract: what it calls and chooses is what the definition says.
+-- Assumes nothing.
+use mathlib.Core.Path.{refl}
+use Rattle.predictor.specs.Reconstruct.{XOR}
+use Rattle.predictor.proofs.reconstruct.xor.Statement.{statement}
+use Rattle.predictor.proofs.reconstruct.xor.Tie as tie
+
+returns : tie.Need-returns
+unfolding XOR
+returns c = refl
+
+pub xor-spec : {M : Type 1} → statement M
+xor-spec = tie.close (tie.spec returns)

@@ -1,0 +1,20 @@
+-- G.727, section 6.2.9: the tone and transition detector, TONE and TRANS. Assumes nothing.
+use mathlib.Core.Bool.{_&&_}
+use Prim.Native.Nat.{ℕ, _+_, _%_}
+use lib.Dec.{eqb, leb, ltb}
+use Rattle.words.specs.Notation.{pick, _<<_, _>>_}
+
+-- "Partial band signal detection": TDP
+unfoldable pub TONE : ℕ → ℕ
+TONE A2P = pick (leb 32768 A2P && ltb A2P 53760) 1 0
+
+-- "Transition detector": TR. G.726's has other numbers in THR2
+unfoldable pub TRANS : ℕ → ℕ → ℕ → ℕ
+TRANS TD YL DQ =
+    let DQMAG = DQ % 16384 in
+    let YLINT = YL >> 15 in
+    let YLFRAC = (YL >> 10) % 32 in
+    let THR1 = (32 + YLFRAC) << YLINT in
+    let THR2 = pick (ltb 8 YLINT) (31 << 9) THR1 in
+    let DQTHR = (THR2 + (THR2 >> 1)) >> 1 in
+    pick (ltb DQTHR DQMAG && eqb TD 1) 1 0

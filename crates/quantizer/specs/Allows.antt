@@ -1,0 +1,14 @@
+-- What a codeword allows (01, "The steps of one sample"): exactly those differences that LOG, SUBTB and QUAN turn into it.
+-- A difference is the 16-bit word D, two's complement, so D runs through all from -32,768 to 32,767. Assumes nothing.
+use mathlib.Core.Path.{_≡_}
+use Prim.Native.Nat.{ℕ, _<_}
+use Rattle.logarithm.specs.Logarithm.{LOG, SUBTB}
+use Rattle.quantizer.specs.Decision.{QUAN}
+
+-- the codeword of a difference at scale factor Y and a width
+unfoldable pub codeword : ℕ → ℕ → ℕ → ℕ
+codeword width Y D = QUAN width (SUBTB (LOG D .dl) Y) (LOG D .ds)
+
+pub record Allows (width Y I D : ℕ) : Type 0 where
+  pub word : D < 65536
+  pub coded : codeword width Y D ≡ I

@@ -1,0 +1,6 @@
+pub mod Table
+pub mod Decision
+pub mod Output
+pub mod Multiplier
+pub mod Sync
+pub mod Allows

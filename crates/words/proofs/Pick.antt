@@ -1,0 +1,14 @@
+-- What holds of each row of a brace where its condition holds, holds of the brace.
+-- Assumes nothing.
+use mathlib.Core.Bool.{Bool, true, false}
+use mathlib.Core.Path.{_≡_, refl}
+use Rattle.words.specs.Notation.{pick}
+
+pub by-pick : {A : Type 0} (P : A → Type 0) (t : Bool) (a b : A) → (t ≡ true → P a) → (t ≡ false → P b) → P (pick t a b)
+by-pick P true a b p q = p refl
+by-pick P false a b p q = q refl
+
+-- a test comes out one way or the other
+pub cases : {P : Type 0} (t : Bool) → (t ≡ true → P) → (t ≡ false → P) → P
+cases true p q = p refl
+cases false p q = q refl

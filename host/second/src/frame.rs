@@ -1,0 +1,93 @@
+//! The radio frame, a house format: two octets of header (2 bits edition, 3 bits width, 3 bits
+//! core, 8 bits groups of eight samples), then one plane of octets for each bit of the codewords,
+//! the sign bits first.
+
+use crate::replies::{self, demand};
+
+pub const EDITION: u8 = 1;
+pub const HEADER_OCTETS: usize = 2;
+pub const MOST_GROUPS: usize = 40;
+pub const GROUP: usize = 8;
+
+#[derive(Clone, Copy, Debug, PartialEq, Eq)]
+pub struct Header {
+    pub width: u8,
+    pub core: u8,
+    pub groups: usize,
+}
+
+impl Header {
+    pub fn samples(&self) -> usize {
+        GROUP * self.groups
+    }
+
+    /// The length of the whole frame.
+    pub fn octets(&self) -> usize {
+        HEADER_OCTETS + usize::from(self.width) * self.groups
+    }
+
+    fn to_octets(self) -> [u8; HEADER_OCTETS] {
+        [
+            EDITION << 6 | self.width << 3 | self.core,
+            self.groups as u8,
+        ]
+    }
+}
+
+pub fn is_sample_count(count: usize) -> bool {
+    count.is_multiple_of(GROUP) && (1..=MOST_GROUPS).contains(&(count / GROUP))
+}
+
+/// The header of a well-formed frame, or the number of the first thing wrong with it.
+pub fn read_header(frame: &[u8]) -> Result<Header, u8> {
+    let &[first, groups, ..] = frame else {
+        return Err(replies::NOT_A_FRAME);
+    };
+    let header = Header {
+        width: first >> 3 & 7,
+        core: first & 7,
+        groups: usize::from(groups),
+    };
+    demand(first >> 6 == EDITION, replies::NOT_A_FRAME)?;
+    demand(
+        replies::is_pair(header.width, header.core),
+        replies::NO_SUCH_PAIR,
+    )?;
+    demand(is_sample_count(header.samples()), replies::BAD_SAMPLE_COUNT)?;
+    demand(frame.len() == header.octets(), replies::WRONG_LENGTH)?;
+    Ok(header)
+}
+
+/// Writes a frame over the whole of `out`, which must have the frame's length.
+pub fn pack(header: Header, codewords: &[u8], out: &mut [u8]) {
+    let (head, planes) = out.split_at_mut(HEADER_OCTETS);
+    head.copy_from_slice(&header.to_octets());
+    for (place, plane) in planes.chunks_mut(header.groups).enumerate() {
+        let bit = usize::from(header.width) - 1 - place;
+        for (octet, group) in plane.iter_mut().zip(codewords.chunks(GROUP)) {
+            *octet = group
+                .iter()
+                .fold(0, |bits, codeword| bits << 1 | codeword >> bit & 1);
+        }
+    }
+}
+
+/// The codewords of a well-formed frame, first sample first.
+pub fn unpack(header: Header, frame: &[u8]) -> Vec<u8> {
+    let planes: Vec<&[u8]> = frame[HEADER_OCTETS..].chunks(header.groups).collect();
+    (0..header.samples())
+        .map(|sample| {
+            let (octet, bit) = (sample / GROUP, GROUP - 1 - sample % GROUP);
+            planes
+                .iter()
+                .fold(0, |codeword, plane| codeword << 1 | plane[octet] >> bit & 1)
+        })
+        .collect()
+}
+
+/// Writes the first planes of a frame under a new header over the whole of `out`,
+/// which must have the length that the new header calls for.
+pub fn keep_first_planes(thinner: Header, frame: &[u8], out: &mut [u8]) {
+    out.copy_from_slice(&frame[..thinner.octets()]);
+    out[..HEADER_OCTETS].copy_from_slice(&thinner.to_octets());
+}

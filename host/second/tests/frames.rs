@@ -1,0 +1,88 @@
+//! The worked frames, and packing, unpacking and dropping over every pair and many lengths.
+
+mod support;
+
+use second::calls::drop_planes;
+use second::frame::{pack, read_header, unpack, Header};
+use support::{Random, PAIRS};
+
+fn header(width: u8, core: u8, groups: usize) -> Header {
+    Header {
+        width,
+        core,
+        groups,
+    }
+}
+
+fn packed(header: Header, codewords: &[u8]) -> Vec<u8> {
+    let mut out = vec![0xEE; header.octets()];
+    pack(header, codewords, &mut out);
+    out
+}
+
+fn dropped(frame: &[u8], target: u8) -> Vec<u8> {
+    let mut out = vec![0xEE; 202];
+    let answer = drop_planes(frame, target, &mut out);
+    assert_eq!(answer.number, 0);
+    assert!(out[answer.octets..].iter().all(|&octet| octet == 0xEE));
+    out.truncate(answer.octets);
+    out
+}
+
+#[test]
+fn eight_times_10000() {
+    let frame = packed(header(5, 2, 1), &[0b10000; 8]);
+    assert_eq!(frame, [0x6A, 0x01, 0xFF, 0x00, 0x00, 0x00, 0x00]);
+    assert_eq!(dropped(&frame, 2), [0x52, 0x01, 0xFF, 0x00]);
+}
+
+#[test]
+fn once_00001_and_seven_times_00000() {
+    let frame = packed(header(5, 2, 1), &[1, 0, 0, 0, 0, 0, 0, 0]);
+    assert_eq!(frame, [0x6A, 0x01, 0x00, 0x00, 0x00, 0x00, 0x80]);
+    assert_eq!(dropped(&frame, 4), [0x62, 0x01, 0x00, 0x00, 0x00, 0x00]);
+}
+
+#[test]
+fn a_frame_gives_its_header_and_codewords_back() {
+    let mut random = Random::new(4);
+    for (width, core) in PAIRS {
+        for groups in [1, 2, 3, 17, 39, 40] {
+            let head = header(width, core, groups);
+            let codewords: Vec<u8> = (0..head.samples())
+                .map(|_| random.below(1 << width) as u8)
+                .collect();
+            let frame = packed(head, &codewords);
+            assert_eq!(frame.len(), 2 + usize::from(width) * groups);
+            assert_eq!(read_header(&frame), Ok(head));
+            assert_eq!(unpack(head, &frame), codewords);
+        }
+    }
+}
+
+/// Dropping planes shifts every codeword, and dropping in two steps is dropping in one.
+#[test]
+fn dropping_shifts_the_codewords() {
+    let mut random = Random::new(5);
+    for (width, core) in PAIRS {
+        let head = header(width, core, 7);
+        let codewords: Vec<u8> = (0..56).map(|_| random.below(1 << width) as u8).collect();
+        let frame = packed(head, &codewords);
+        assert_eq!(dropped(&frame, width), frame);
+        for target in core..=width {
+            let thin = dropped(&frame, target);
+            let shifted: Vec<u8> = codewords.iter().map(|c| c >> (width - target)).collect();
+            let thin_header = header(target, core, 7);
+            assert_eq!(read_header(&thin), Ok(thin_header));
+            assert_eq!(unpack(thin_header, &thin), shifted);
+            for last in core..=target {
+                assert_eq!(dropped(&thin, last), dropped(&frame, last));
+            }
+        }
+    }
+}
+
+#[test]
+fn the_longest_frame_has_202_octets() {
+    assert_eq!(header(5, 4, 40).octets(), 202);
+}

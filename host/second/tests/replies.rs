@@ -1,0 +1,441 @@
+//! Every reply of every call, the order of the rows where two or more apply, the limit cases,
+//! and that a refused call writes nothing and keeps the state.
+
+mod support;
+
+use second::calls::{decode, drop_planes, encode, reset};
+use second::state::State;
+use support::{Random, PAIRS};
+
+const FILL: u8 = 0xA5;
+
+/// What the encoder is asked; each test spoils some of it.
+#[derive(Clone)]
+struct Encoding {
+    state: State,
+    law: u8,
+    width: u8,
+    samples: usize,
+    room: usize,
+}
+
+fn sound_encoding() -> Encoding {
+    Encoding {
+        state: State::reset(3),
+        law: 0,
+        width: 5,
+        samples: 16,
+        room: 12,
+    }
+}
+
+/// The number that the encoder answers. Everything else an answer says is looked at here.
+fn encoded(ask: &Encoding) -> u8 {
+    let pcm = Random::new(20).bytes(ask.samples);
+    let mut out = vec![FILL; ask.room];
+    let answer = encode(ask.state, ask.law, ask.width, &pcm, &mut out);
+    if answer.number == 0 {
+        let octets = 2 + usize::from(ask.width) * ask.samples / 8;
+        assert_eq!(answer.octets, octets);
+        assert!(out[octets..].iter().all(|&octet| octet == FILL));
+        assert_ne!(answer.state, ask.state);
+    } else {
+        assert_eq!((answer.octets, answer.state), (0, ask.state));
+        assert!(out.iter().all(|&octet| octet == FILL));
+    }
+    answer.number
+}
+
+/// What the decoder is asked.
+#[derive(Clone)]
+struct Decoding {
+    state: State,
+    law: u8,
+    frame: Vec<u8>,
+    room: usize,
+}
+
+/// A frame of two groups at (5,3).
+fn sound_frame() -> Vec<u8> {
+    vec![
+        0x6B, 2, 0x12, 0x34, 0x56, 0x78, 0x9A, 0xBC, 0xDE, 0xF0, 0x0F, 0x1E,
+    ]
+}
+
+fn sound_decoding() -> Decoding {
+    Decoding {
+        state: State::reset(3),
+        law: 1,
+        frame: sound_frame(),
+        room: 16,
+    }
+}
+
+fn decoded(ask: &Decoding) -> u8 {
+    let mut out = vec![FILL; ask.room];
+    let answer = decode(ask.state, ask.law, &ask.frame, &mut out);
+    if answer.number == 0 {
+        let samples = 8 * usize::from(ask.frame[1]);
+        assert_eq!(answer.octets, samples);
+        assert!(answer.moved <= samples);
+        assert!(out[samples..].iter().all(|&octet| octet == FILL));
+        assert_ne!(answer.state, ask.state);
+    } else {
+        assert_eq!((answer.octets, answer.moved), (0, 0));
+        assert_eq!(answer.state, ask.state);
+        assert!(out.iter().all(|&octet| octet == FILL));
+    }
+    answer.number
+}
+
+/// What is asked of dropping.
+#[derive(Clone)]
+struct Dropping {
+    frame: Vec<u8>,
+    target: u8,
+    room: usize,
+}
+
+fn sound_dropping() -> Dropping {
+    Dropping {
+        frame: sound_frame(),
+        target: 4,
+        room: 10,
+    }
+}
+
+fn dropped(ask: &Dropping) -> u8 {
+    let mut out = vec![FILL; ask.room];
+    let answer = drop_planes(&ask.frame, ask.target, &mut out);
+    if answer.number == 0 {
+        let octets = 2 + usize::from(ask.target) * usize::from(ask.frame[1]);
+        assert_eq!(answer.octets, octets);
+        assert_eq!(out[2..octets], ask.frame[2..octets]);
+        assert!(out[octets..].iter().all(|&octet| octet == FILL));
+    } else {
+        assert_eq!(answer.octets, 0);
+        assert!(out.iter().all(|&octet| octet == FILL));
+    }
+    answer.number
+}
+
+/// A way to spoil a call, with the reply that is then due.
+type Fault<T> = (u8, fn(&mut T));
+
+/// Spoils a sound call in every combination of faults. The list is in the order of the rows, so
+/// that the first fault of a combination decides.
+fn in_order<T: Clone>(sound: T, faults: &[Fault<T>], answer: fn(&T) -> u8) {
+    for chosen in 0..1_u32 << faults.len() {
+        let mut ask = sound.clone();
+        let of_this: Vec<&Fault<T>> = (0..faults.len())
+            .filter(|place| chosen >> place & 1 == 1)
+            .map(|place| &faults[place])
+            .collect();
+        for (_, spoil) in &of_this {
+            spoil(&mut ask);
+        }
+        let due = of_this.first().map_or(0, |fault| fault.0);
+        assert_eq!(answer(&ask), due, "faults {chosen:b}");
+    }
+}
+
+#[test]
+fn encode_answers_4_9_1_2_3_in_this_order() {
+    in_order(
+        sound_encoding(),
+        &[
+            (4, |ask| ask.state.ap = 513),
+            (9, |ask| ask.law = 2),
+            (1, |ask| ask.width = 2),
+            (2, |ask| ask.samples = 12),
+            (3, |ask| ask.room = 1),
+        ],
+        encoded,
+    );
+}
+
+/// The header's faults leave the others in place: a frame one octet too long is so for any x and
+/// g, and core 4 at width 5 is a pair.
+#[test]
+fn decode_answers_4_9_5_1_2_6_7_3_in_this_order() {
+    in_order(
+        sound_decoding(),
+        &[
+            (4, |ask| ask.state.yu = 543),
+            (9, |ask| ask.law = 255),
+            (5, |ask| ask.frame[0] ^= 0b1100_0000),
+            (1, |ask| {
+                ask.frame[0] = ask.frame[0] & 0b1100_0111 | 0b0011_0000
+            }),
+            (2, |ask| ask.frame[1] = 0),
+            (6, |ask| ask.frame.push(0)),
+            (7, |ask| ask.frame[0] = ask.frame[0] & 0b1111_1000 | 4),
+            (3, |ask| ask.room = 0),
+        ],
+        decoded,
+    );
+}
+
+#[test]
+fn drop_answers_5_1_2_6_8_3_in_this_order() {
+    in_order(
+        sound_dropping(),
+        &[
+            (5, |ask| ask.frame[0] &= 0b0011_1111),
+            (1, |ask| ask.frame[0] = ask.frame[0] & 0b1111_1000 | 7),
+            (2, |ask| ask.frame[1] = 41),
+            (6, |ask| ask.frame.truncate(11)),
+            (8, |ask| ask.target = 2),
+            (3, |ask| ask.room = 3),
+        ],
+        dropped,
+    );
+}
+
+#[test]
+fn reset_answers_1_for_any_other_core_and_gives_core_2() {
+    for core in 0..=255 {
+        let answer = reset(core);
+        let (number, granted) = match core {
+            2..=4 => (0, core),
+            _ => (1, 2),
+        };
+        assert_eq!((answer.number, answer.octets), (number, 0));
+        assert_eq!(answer.state, State::reset(granted));
+    }
+}
+
+#[test]
+fn only_laws_0_and_1_and_the_nine_pairs() {
+    for number in 0..=255 {
+        let law = Encoding {
+            law: number,
+            ..sound_encoding()
+        };
+        assert_eq!(encoded(&law), if number < 2 { 0 } else { 9 });
+        for core in 2..=4 {
+            let width = Encoding {
+                width: number,
+                state: State::reset(core),
+                room: 2_000,
+                ..sound_encoding()
+            };
+            let pair = PAIRS.contains(&(number, core));
+            assert_eq!(encoded(&width), if pair { 0 } else { 1 });
+        }
+    }
+}
+
+#[test]
+fn sample_counts_of_the_encoder() {
+    for samples in 0..=700 {
+        let ask = Encoding {
+            samples,
+            room: 1_000,
+            ..sound_encoding()
+        };
+        let sound = samples % 8 == 0 && (8..=320).contains(&samples);
+        assert_eq!(encoded(&ask), if sound { 0 } else { 2 }, "{samples}");
+    }
+}
+
+#[test]
+fn the_encoder_needs_room_for_exactly_the_frame() {
+    for (width, core) in PAIRS {
+        for samples in [8, 16, 320] {
+            let octets = 2 + usize::from(width) * samples / 8;
+            let state = State::reset(core);
+            for (room, due) in [(0, 3), (octets - 1, 3), (octets, 0), (octets + 1, 0)] {
+                let ask = Encoding {
+                    state,
+                    law: 1,
+                    width,
+                    samples,
+                    room,
+                };
+                assert_eq!(encoded(&ask), due);
+            }
+        }
+    }
+}
+
+#[test]
+fn every_first_octet_of_a_frame() {
+    for first in 0..=255_u8 {
+        let (edition, width, core) = (first >> 6, first >> 3 & 7, first & 7);
+        let due = match (edition, PAIRS.contains(&(width, core)), core) {
+            (0 | 2 | 3, _, _) => 5,
+            (_, false, _) => 1,
+            (_, _, 3) => 0,
+            _ => 7,
+        };
+        let mut frame = vec![first, 1];
+        frame.extend(vec![0x5A; usize::from(width)]);
+        let ask = Decoding {
+            frame: frame.clone(),
+            ..sound_decoding()
+        };
+        assert_eq!(decoded(&ask), due, "{first:02X}");
+        let drop = Dropping {
+            frame,
+            target: width,
+            room: 20,
+        };
+        let due_of_drop = if due == 7 { 0 } else { due };
+        assert_eq!(dropped(&drop), due_of_drop, "{first:02X}");
+    }
+}
+
+/// A frame at (2,2) with g groups.
+fn frame_of(groups: u8) -> Vec<u8> {
+    let mut frame = vec![0x52, groups];
+    frame.extend(vec![0x33; 2 * usize::from(groups)]);
+    frame
+}
+
+#[test]
+fn every_g_of_a_frame() {
+    for groups in 0..=255 {
+        let ask = Decoding {
+            state: State::reset(2),
+            frame: frame_of(groups),
+            room: 2_100,
+            ..sound_decoding()
+        };
+        let due = if (1..=40).contains(&groups) { 0 } else { 2 };
+        assert_eq!(decoded(&ask), due, "g {groups}");
+        let drop = Dropping {
+            frame: frame_of(groups),
+            target: 2,
+            room: 600,
+        };
+        assert_eq!(dropped(&drop), due, "g {groups}");
+    }
+}
+
+#[test]
+fn frames_of_no_one_and_two_octets() {
+    let frames: [(&[u8], u8); 6] = [
+        (&[], 5),
+        (&[0x6B], 5),
+        (&[0x2B, 2], 5),
+        (&[0x7B, 2], 1),
+        (&[0x6B, 0], 2),
+        (&[0x6B, 2], 6),
+    ];
+    for (frame, due) in frames {
+        let ask = Decoding {
+            frame: frame.to_vec(),
+            ..sound_decoding()
+        };
+        assert_eq!(decoded(&ask), due, "{frame:?}");
+        let drop = Dropping {
+            frame: frame.to_vec(),
+            ..sound_dropping()
+        };
+        assert_eq!(dropped(&drop), due, "{frame:?}");
+    }
+}
+
+#[test]
+fn a_frame_too_long_or_too_short_by_one() {
+    for change in [11, 13] {
+        let mut frame = sound_frame();
+        frame.resize(change, 0);
+        let ask = Decoding {
+            frame: frame.clone(),
+            ..sound_decoding()
+        };
+        assert_eq!(decoded(&ask), 6);
+        let drop = Dropping {
+            frame,
+            ..sound_dropping()
+        };
+        assert_eq!(dropped(&drop), 6);
+    }
+}
+
+#[test]
+fn the_decoder_needs_room_for_exactly_the_samples() {
+    for groups in [1, 2, 40] {
+        let samples = 8 * usize::from(groups);
+        for (room, due) in [(0, 3), (samples - 1, 3), (samples, 0), (samples + 1, 0)] {
+            let ask = Decoding {
+                state: State::reset(2),
+                frame: frame_of(groups),
+                room,
+                ..sound_decoding()
+            };
+            assert_eq!(decoded(&ask), due);
+        }
+    }
+}
+
+#[test]
+fn target_widths_and_room_of_dropping() {
+    for target in 0..=255 {
+        let ask = Dropping {
+            target,
+            room: 600,
+            ..sound_dropping()
+        };
+        let due = if (3..=5).contains(&target) { 0 } else { 8 };
+        assert_eq!(dropped(&ask), due, "target {target}");
+    }
+    for (room, due) in [(0, 3), (9, 3), (10, 0), (11, 0)] {
+        let ask = Dropping {
+            room,
+            ..sound_dropping()
+        };
+        assert_eq!(dropped(&ask), due, "room {room}");
+    }
+}
+
+/// A spoiled state is refused whichever field is spoiled, and comes back as it was.
+#[test]
+fn a_state_out_of_range_in_any_field_is_refused() {
+    let faults: [fn(&mut State); 15] = [
+        |s| s.yu = 5_121,
+        |s| s.yl = 34_815,
+        |s| s.yl = u32::MAX,
+        |s| s.dms = 3_585,
+        |s| s.dml = 14_337,
+        |s| s.ap = 65_535,
+        |s| s.dq[0] = 0,
+        |s| s.dq[5] = 992,
+        |s| s.sr1 = 2_080,
+        |s| s.sr2 = 31,
+        |s| s.pk1 = 2,
+        |s| s.pk2 = 255,
+        |s| s.td = 2,
+        |s| s.core = 5,
+        |s| s.core = 1,
+    ];
+    for fault in faults {
+        let mut state = State::reset(3);
+        fault(&mut state);
+        let encoding = Encoding {
+            state,
+            ..sound_encoding()
+        };
+        assert_eq!(encoded(&encoding), 4, "{state:?}");
+        let decoding = Decoding {
+            state,
+            ..sound_decoding()
+        };
+        assert_eq!(decoded(&decoding), 4, "{state:?}");
+    }
+}
+
+#[test]
+fn a_refused_call_may_be_made_again_as_if_it_had_not_been() {
+    let pcm = Random::new(21).bytes(64);
+    let start = State::reset(4);
+    let mut straight = [0; 42];
+    let wanted = encode(start, 0, 5, &pcm, &mut straight);
+    let mut out = [0; 42];
+    let refused = encode(start, 0, 5, &pcm, &mut out[..41]);
+    assert_eq!(refused.number, 3);
+    assert_eq!(encode(refused.state, 0, 5, &pcm, &mut out), wanted);
+    assert_eq!(out, straight);
+}

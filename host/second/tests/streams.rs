@@ -1,0 +1,157 @@
+//! Whole streams: a decoder's state stays the encoder's while planes are dropped at random and
+//! the width changes from frame to frame, and a held codeword takes a coefficient past 32,767.
+
+mod support;
+
+use second::calls::{self, decode, drop_planes, encode};
+use second::frame::{read_header, unpack};
+use second::g711::{compress, Law};
+use second::sample;
+use second::state::State;
+use support::{Random, PAIRS};
+
+/// Noise around a slow tone, its strength drawn anew for every frame.
+fn pcm(random: &mut Random, law: u8, count: usize) -> Vec<u8> {
+    let law = Law::from_number(law).unwrap();
+    let strength = 1 << random.below(14);
+    let offset = random.below(2 * strength) as i32 - strength as i32;
+    let level =
+        |_| (random.below(2 * strength) as i32 - strength as i32 + offset).clamp(-8_192, 8_191);
+    (0..count)
+        .map(level)
+        .map(|level| compress(law, level))
+        .collect()
+}
+
+/// One frame sent through a random drop; both states after it.
+fn send(random: &mut Random, law: u8, core: u8, ends: (State, State)) -> (State, State) {
+    let width = core + random.below(u64::from(6 - core)) as u8;
+    let samples = 8 * (1 + random.below(40) as usize);
+    let mut frame = [0; 202];
+    let input = pcm(random, law, samples);
+    let sent = encode(ends.0, law, width, &input, &mut frame);
+    assert_eq!(sent.number, 0);
+    let target = core + random.below(u64::from(width - core + 1)) as u8;
+    let mut thin = [0; 202];
+    let dropped = drop_planes(&frame[..sent.octets], target, &mut thin);
+    assert_eq!(dropped.number, 0);
+    let mut out = [0; 320];
+    let other_law = random.below(2) as u8;
+    let received = decode(ends.1, other_law, &thin[..dropped.octets], &mut out);
+    assert_eq!((received.number, received.octets), (0, samples));
+    (sent.state, received.state)
+}
+
+#[test]
+fn the_decoder_follows_the_encoder_while_planes_are_dropped() {
+    let mut random = Random::new(11);
+    for core in 2..=4 {
+        for law in 0..2 {
+            let start = calls::reset(core).state;
+            let mut ends = (start, start);
+            for frame in 0..300 {
+                ends = send(&mut random, law, core, ends);
+                assert_eq!(ends.0, ends.1, "frame {frame} at core {core}");
+                assert!(ends.0.in_range());
+            }
+            assert_ne!(ends.0, start);
+        }
+    }
+}
+
+/// The state depends on the core bits alone: whatever the enhancement bits, it moves alike.
+#[test]
+fn enhancement_bits_do_not_reach_the_state() {
+    let mut random = Random::new(12);
+    for (width, core) in PAIRS {
+        let mut states = [State::reset(core); 2];
+        for _ in 0..3_000 {
+            let core_bits = (random.below(1 << core) as u8) << (width - core);
+            for state in &mut states {
+                let codeword = core_bits | random.below(1 << (width - core)) as u8;
+                *state = sample::decode(state, Law::Mu, width, codeword).state;
+            }
+            assert_eq!(states[0], states[1]);
+        }
+    }
+}
+
+/// At width 2 the intervals are so wide that none of these bytes has to move.
+#[test]
+fn the_moved_count_is_the_count_of_moved_samples() {
+    let mut random = Random::new(13);
+    for (width, core) in PAIRS {
+        let (mut sender, mut receiver) = (State::reset(core), State::reset(core));
+        let mut moved_ever = 0;
+        for _ in 0..20 {
+            let mut frame = vec![0; 2 + 40 * usize::from(width)];
+            sender = encode(sender, 1, width, &pcm(&mut random, 1, 320), &mut frame).state;
+            let mut state = receiver;
+            let mut moved = 0;
+            let header = read_header(&frame).unwrap();
+            for codeword in unpack(header, &frame) {
+                let decoded = sample::decode(&state, Law::A, width, codeword);
+                moved += usize::from(decoded.moved);
+                state = decoded.state;
+            }
+            let answer = decode(receiver, 1, &frame, &mut [0; 320]);
+            assert_eq!((answer.moved, answer.state), (moved, state));
+            receiver = answer.state;
+            moved_ever += moved;
+        }
+        assert!(moved_ever > 0 || width == 2, "at ({width},{core})");
+    }
+}
+
+fn held_codeword_frame() -> Vec<u8> {
+    let mut frame = vec![0x52, 0x28];
+    frame.extend([0x00; 40]);
+    frame.extend([0xFF; 40]);
+    frame
+}
+
+/// Speech does not come here, so a test with speech alone would not see a coefficient clamped at
+/// 32,767. Samples are counted from 0 over five frames of 320.
+#[test]
+fn a_held_codeword_takes_the_b_coefficients_from_32767_to_32768() {
+    let frame = held_codeword_frame();
+    let header = read_header(&frame).unwrap();
+    let mut state = calls::reset(2).state;
+    let mut turned = None;
+    for index in 0..5 {
+        let answer = decode(state, 0, &frame, &mut [0; 320]);
+        assert_eq!((answer.number, answer.octets), (0, 320));
+        for (place, codeword) in unpack(header, &frame).into_iter().enumerate() {
+            let next = sample::decode(&state, Law::Mu, 2, codeword).state;
+            if turned.is_none() && next.b.contains(&32_768) {
+                turned = Some(320 * index + place);
+                assert_eq!((state.b, next.b), ([32_767; 6], [32_768; 6]));
+            }
+            state = next;
+        }
+        assert_eq!(answer.state, state);
+    }
+    assert_eq!(turned, Some(1_388));
+}
+
+/// The sample, counted from 0, whose step first makes some B the word 32,768.
+fn turning_sample(core: u8, codeword: u8) -> Option<usize> {
+    let mut state = State::reset(core);
+    (0..1_600).find(|_| {
+        state = sample::decode(&state, Law::Mu, core, codeword).state;
+        state.b.contains(&32_768)
+    })
+}
+
+/// The reset words of past differences are positive, so that a negative codeword first has to
+/// undo what its first steps did and comes two samples later.
+#[test]
+fn every_held_codeword_of_every_core_does_so() {
+    for core in 2..=4_u8 {
+        for codeword in 0..1_u8 << core {
+            let negative = codeword >> (core - 1) == 1;
+            let due = if negative { 1_390 } else { 1_388 };
+            assert_eq!(turning_sample(core, codeword), Some(due));
+        }
+    }
+}
