@@ -10,7 +10,7 @@ use borrow.Author.Tests.{eqb-false}
 use Rattle.words.specs.Length.{bitLength}
 use Rattle.words.proofs.Length.{length-spans}
 use Rattle.words.proofs.Pick.{cases}
-use Rattle.words.proofs.Within.{Within}
+use Rattle.words.specs.Within.{Within}
 use Rattle.predictor.specs.Float.{EXP, MANT}
 
 -- the span of a number above 0 is even

@@ -10,7 +10,7 @@ use borrow.Author.Tests.{eqb-true}
 use Rattle.words.specs.Notation.{pick}
 use Rattle.words.proofs.Length.{length-le}
 use Rattle.words.proofs.Pick.{by-pick}
-use Rattle.words.proofs.Within.{Within}
+use Rattle.words.specs.Within.{Within}
 use Rattle.predictor.specs.Float.{EXP, MANT, FloatWord}
 use Rattle.predictor.specs.Estimate.{ACCUM}
 use Rattle.predictor.specs.Reconstruct.{DQI, SEI, ADDB, ADDC, FLOATA, FLOATB, XOR}

@@ -9,7 +9,7 @@ use lib.Dec.{eqb}
 use borrow.Author.Tests.{eqb-true, eqb-false}
 use Rattle.words.specs.Notation.{pick}
 use Rattle.words.proofs.Pick.{by-pick, cases}
-use Rattle.words.proofs.Within.{Within}
+use Rattle.words.specs.Within.{Within}
 use Rattle.scale.specs.Scale.{FILTD, FILTE, LIMB, MIX}
 
 pub filtd-word : (WI Y : ℕ) → FILTD WI Y < 8192

@@ -1,3 +1,3 @@
 pub mod Length
 pub mod Pick
-pub mod Within
+pub mod Rows

@@ -1,2 +1,4 @@
 pub mod Notation
 pub mod Length
+pub mod Within
+pub mod Every

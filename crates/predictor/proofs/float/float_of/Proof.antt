@@ -5,7 +5,7 @@ use mathlib.Core.Path.{_≡_}
 use Prim.Native.Nat.{_≤_}
 use native.Mathlib.Omega.{arith}
 use Rattle.words.proofs.Length.{length-le}
-use Rattle.words.proofs.Within.{Within}
+use Rattle.words.specs.Within.{Within}
 use Rattle.predictor.specs.Float.{EXP, MANT, floatOf}
 use Rattle.predictor.proofs.Mantissa.{mantissa-range}
 use Rattle.predictor.proofs.float.float_of.Statement.{statement}

@@ -1,0 +1,14 @@
+-- `state::within` meets its contract, test by test.
+-- Assumes nothing.
+use mathlib.Core.Path.{refl}
+use Rattle.words.specs.Every.{joined, every}
+use Rattle.state.specs.Range.{within}
+use Rattle.state.proofs.within.Statement.{statement}
+use Rattle.state.proofs.within.Tie as tie
+
+returns : tie.Need-returns
+unfolding within every joined
+returns c = refl
+
+pub within-spec : {M : Type 1} → statement M
+within-spec = tie.close (tie.spec returns)

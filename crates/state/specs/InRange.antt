@@ -1,0 +1,30 @@
+-- What the test of 01's table says of a state, as facts that a proof can use; proofs/Ranges.antt shows that the two are the same.
+-- Assumes nothing.
+use Prim.Native.Nat.{ℕ, _≤_}
+use mathlib.Core.List.{List}
+use lib.ListN.{getD}
+use Rattle.words.specs.Within.{Within}
+use Rattle.predictor.specs.Float.{FloatWord}
+use Rattle.state.specs.declared.State.{State}
+
+pub record FloatWords (dq : List ℕ) : Type 0 where
+  pub dq1 : FloatWord 14 (getD dq 0 0)
+  pub dq2 : FloatWord 14 (getD dq 1 0)
+  pub dq3 : FloatWord 14 (getD dq 2 0)
+  pub dq4 : FloatWord 14 (getD dq 3 0)
+  pub dq5 : FloatWord 14 (getD dq 4 0)
+  pub dq6 : FloatWord 14 (getD dq 5 0)
+
+pub record InRange (s : State) : Type 0 where
+  pub fast : Within 544 5120 (s .yu)
+  pub slow : Within 34816 327680 (s .yl)
+  pub short : s .dms ≤ 3584
+  pub long : s .dml ≤ 14336
+  pub speed : s .ap ≤ 512
+  pub differences : FloatWords (s .dq)
+  pub signal1 : FloatWord 15 (s .sr1)
+  pub signal2 : FloatWord 15 (s .sr2)
+  pub sign1 : s .pk1 ≤ 1
+  pub sign2 : s .pk2 ≤ 1
+  pub tone : s .td ≤ 1
+  pub cores : Within 2 4 (s .core)

@@ -1,0 +1,55 @@
+-- 01's table of the state's ranges, row by row, as a test. A1, A2 and B1 to B6 are any 16-bit word, which their type says.
+-- Assumes nothing.
+use mathlib.Core.Bool.{Bool}
+use mathlib.Core.List.{List, [], _∷_}
+use Prim.Native.Nat.{ℕ, _%_}
+use lib.Dec.{leb, ltb}
+use lib.ListN.{getD}
+use Rattle.words.specs.Every.{every}
+use Rattle.words.specs.Notation.{_>>_}
+use Rattle.state.specs.declared.State.{State}
+
+unfoldable pub within : ℕ → ℕ → ℕ → Bool
+within least greatest n = every (leb least n ∷ leb n greatest ∷ [])
+
+-- an 11-bit word: sign bit, exponent 0 to `most`, mantissa 32 to 63
+unfoldable pub isFloatWord : ℕ → ℕ → Bool
+isFloatWord most w = every (ltb w 2048 ∷ leb ((w >> 6) % 16) most ∷ leb 32 (w % 64) ∷ [])
+
+-- DQ1 to DQ6
+unfoldable pub floatWords : List ℕ → Bool
+floatWords dq =
+    every
+    (isFloatWord 14 (getD dq 0 0)
+    ∷ isFloatWord 14 (getD dq 1 0)
+    ∷ isFloatWord 14 (getD dq 2 0)
+    ∷ isFloatWord 14 (getD dq 3 0)
+    ∷ isFloatWord 14 (getD dq 4 0)
+    ∷ isFloatWord 14 (getD dq 5 0)
+    ∷ [])
+
+-- rows YU to AP
+unfoldable pub adaptationInRange : State → Bool
+adaptationInRange s =
+    every
+    (within 544 5120 (s .yu)
+    ∷ within 34816 327680 (s .yl)
+    ∷ within 0 3584 (s .dms)
+    ∷ within 0 14336 (s .dml)
+    ∷ within 0 512 (s .ap)
+    ∷ [])
+
+-- rows DQ1 to TD
+unfoldable pub signalsInRange : State → Bool
+signalsInRange s =
+    every
+    (floatWords (s .dq)
+    ∷ isFloatWord 15 (s .sr1)
+    ∷ isFloatWord 15 (s .sr2)
+    ∷ within 0 1 (s .pk1)
+    ∷ within 0 1 (s .pk2)
+    ∷ within 0 1 (s .td)
+    ∷ [])
+
+unfoldable pub inRange : State → Bool
+inRange s = every (adaptationInRange s ∷ signalsInRange s ∷ within 2 4 (s .core) ∷ [])
