@@ -4,6 +4,7 @@ use mathlib.Core.List.{List, [], _∷_}
 use Prim.Native.Nat.{ℕ, _-_}
 use lib.Dec.{eqb}
 use Rattle.words.specs.Notation.{pick, _>>_}
+use Rattle.quantizer.specs.declared.Quantized.{Quantized}
 use Rattle.quantizer.specs.Table.{Level, level, output}
 
 -- Table 12/G.727: 16 kbit/s
@@ -92,8 +93,5 @@ outputs width = pick (eqb width 2) table12 (pick (eqb width 3) table13 (pick (eq
 
 -- "Reconstruction of quantized difference signal in the logarithmic domain": DQS = I >> (width - 1), and DQLN.
 -- The width is the core's on the feedback path and the received codeword's on the output path
-unfoldable pub RECONST-DQS : ℕ → ℕ → ℕ
-RECONST-DQS width I = I >> (width - 1)
-
-unfoldable pub RECONST-DQLN : ℕ → ℕ → ℕ
-RECONST-DQLN width I = output (outputs width) I
+unfoldable pub RECONST : ℕ → ℕ → Quantized
+RECONST width I = record { dqs = I >> (width - 1); dqln = output (outputs width) I }

@@ -2,6 +2,7 @@
 -- Assumes nothing.
 use mathlib.Core.Bool.{Bool, true, false}
 use mathlib.Core.Path.{_≡_, refl}
+use Prim.Native.Nat.{ℕ, _≤_}
 use Rattle.words.specs.Notation.{pick}
 
 pub by-pick : {A : Type 0} (P : A → Type 0) (t : Bool) (a b : A) → (t ≡ true → P a) → (t ≡ false → P b) → P (pick t a b)
@@ -12,3 +13,6 @@ by-pick P false a b p q = q refl
 pub cases : {P : Type 0} (t : Bool) → (t ≡ true → P) → (t ≡ false → P) → P
 cases true p q = p refl
 cases false p q = q refl
+
+pub pick-le : (t : Bool) {a b n : ℕ} → a ≤ n → b ≤ n → pick t a b ≤ n
+pick-le t {a} {b} {n} p q = by-pick (λ (x : ℕ). x ≤ n) t a b (λ e. p) (λ e. q)

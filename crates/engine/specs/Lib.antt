@@ -1,0 +1,4 @@
+pub mod Estimate
+pub mod Difference
+pub mod Advance
+pub mod Groups

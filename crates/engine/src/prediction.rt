@@ -1,0 +1,65 @@
+// The adaptive predictor (Figures 10 and 12 of G.727): the signal estimate, and the next values of the coefficients.
+ghost use mathlib.Core.Path.{_≡_};
+ghost use Rattle.engine.specs.Estimate.{predicted};
+ghost use Rattle.engine.specs.Groups.{polesOf, zeroOf, zerosOf};
+use predictor::coefficient::{limc, limd, trigb, upa1, upa2, upb};
+use predictor::estimate::{Estimate, accum, fmult};
+use predictor::reconstruct::xor;
+use predictor::tone::tone;
+use state::State;
+
+pub struct Poles {
+    pub a1: u16,
+    pub a2: u16,
+    pub tdp: u16,
+}
+
+pub fn signal_estimate(s: State) -> Estimate
+    ensures { λ r. ⌜ r ≡ predicted s ⌝ }
+{
+    let b = s.b;
+    let dq = s.dq;
+    accum(
+        fmult(s.a1, s.sr1),
+        fmult(s.a2, s.sr2),
+        fmult(b[0], dq[0]),
+        fmult(b[1], dq[1]),
+        fmult(b[2], dq[2]),
+        fmult(b[3], dq[3]),
+        fmult(b[4], dq[4]),
+        fmult(b[5], dq[5]),
+    )
+}
+
+// The second order predictor and the tone that it shows. A2 is limited first, since it limits A1.
+pub fn next_poles(s: State, pk0: u16, sigpk: u16, tr: u16) -> Poles
+    ensures { λ r. ⌜ r ≡ polesOf s pk0 sigpk tr ⌝ }
+{
+    let a2p = limc(upa2(pk0, s.pk1, s.pk2, s.a1, s.a2, sigpk));
+    let a1p = limd(upa1(pk0, s.pk1, s.a1, sigpk), a2p);
+    Poles {
+        a1: trigb(tr, a1p),
+        a2: trigb(tr, a2p),
+        tdp: tone(a2p),
+    }
+}
+
+fn next_zero(tr: u16, dq: u16, bn: u16, dqn: u16) -> u16
+    ensures { λ r. ⌜ r ≡ zeroOf tr dq bn dqn ⌝ }
+{
+    trigb(tr, upb(xor(dqn, dq), bn, dq))
+}
+
+// The sixth order predictor
+pub fn next_zeros(tr: u16, dq0: u16, b: [u16; 6], dq: [u16; 6]) -> [u16; 6]
+    ensures { λ r. ⌜ r ≡ zerosOf tr dq0 b dq ⌝ }
+{
+    [
+        next_zero(tr, dq0, b[0], dq[0]),
+        next_zero(tr, dq0, b[1], dq[1]),
+        next_zero(tr, dq0, b[2], dq[2]),
+        next_zero(tr, dq0, b[3], dq[3]),
+        next_zero(tr, dq0, b[4], dq[4]),
+        next_zero(tr, dq0, b[5], dq[5]),
+    ]
+}

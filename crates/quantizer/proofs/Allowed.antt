@@ -1,0 +1,18 @@
+-- Every difference that a codeword allows is allowed by its thinned form, at one scale factor, over the widths.
+-- Assumes nothing.
+use mathlib.Core.Path.{_≡_, ap, _∙_}
+use Prim.Native.Nat.{ℕ, _-_, _≤_}
+use Rattle.words.specs.Notation.{_>>_}
+use Rattle.logarithm.specs.Logarithm.{LOG}
+use Rattle.logarithm.proofs.Range.{log-sign, normalized-word}
+use Rattle.quantizer.specs.Codeword.{Width}
+use Rattle.quantizer.specs.Allows.{codeword, Allows}
+use Rattle.quantizer.proofs.Nesting.{nesting}
+
+pub allowed-thinned : {v w : ℕ} (Y I D : ℕ) → Width v → Width w → v ≤ w → Allows w Y I D → Allows v Y (I >> (w - v)) D
+unfolding codeword
+allowed-thinned {v} {w} Y I D hv hw h a =
+    record {
+      word = a .word;
+      coded = nesting hv hw h (normalized-word (LOG D .dl) Y) (log-sign D (a .word)) ∙ ap (λ (J : ℕ). J >> (w - v)) (a .coded)
+    }
