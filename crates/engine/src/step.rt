@@ -1,7 +1,7 @@
 // The two calls of the engine. `estimate` is asked before a codeword is known; `advance` takes what it answered, which
 // the state alone fixes, so that the predictor's products are formed once a sample.
 ghost use mathlib.Core.Path.{_≡_};
-ghost use Prim.Native.Nat.{_^_, _<_};
+ghost use Rattle.quantizer.specs.Codeword.{CoreCodeword};
 ghost use Rattle.state.specs.InRange.{InRange};
 ghost use Rattle.engine.specs.Estimate.{estimateOf};
 ghost use Rattle.engine.specs.Advance.{advanceOf};
@@ -28,7 +28,7 @@ pub fn estimate(s: State) -> Estimated
 }
 
 pub fn advance(s: State, e: Estimated, ic: u8) -> State
-    requires { ⌜ InRange s × (e ≡ estimateOf s) × (ic < 2 ^ (s .core)) ⌝ }
+    requires { ⌜ InRange s × (e ≡ estimateOf s) × CoreCodeword (s .core) ic ⌝ }
     ensures { λ r. ⌜ r ≡ advanceOf s ic ⌝ }
 {
     let dq = quantized_difference(s.core, ic, e.y);

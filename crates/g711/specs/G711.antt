@@ -2,10 +2,7 @@
 -- the 128 levels of one sign, level 0 first, sixteen to a segment, a segment to a line. Both signs have the same values.
 -- A level n reaches from its own decision value to the next one's; level 127 is held up to infinity. Assumes nothing.
 use mathlib.Core.List.{List, [], _∷_}
-use mathlib.Core.Bool.{Bool}
 use Prim.Native.Nat.{ℕ}
-use lib.Dec.{eqb}
-use Rattle.words.specs.Notation.{pick}
 
 -- Tables 2a and 2b, mu-law, column 7
 unfoldable pub outputs-mu : List ℕ

@@ -1,0 +1,9 @@
+pub mod Computed
+pub mod Segments
+pub mod Decisions
+pub mod Outputs
+pub mod Steps
+pub mod Extent
+pub mod Order
+pub mod Return
+pub mod Examples

@@ -1,0 +1,53 @@
+-- `g711::compress_mu` meets its contract, sign by sign: no level is above 127.
+-- Assumes nothing.
+use mathlib.Core.Bool.{true}
+use native.Mathlib.Omega.{arith}
+use borrow.Author.Needs.{needs}
+use borrow.Author.Tests.{eq-eqb, ne-eqb}
+use Rattle.g711.specs.Compress.{COMPRESS}
+use Rattle.g711.proofs.Decisions.{level-top}
+use Rattle.g711.proofs.compress_mu.Statement.{statement}
+use Rattle.g711.proofs.compress_mu.Tie as tie
+
+level-mu-requires : tie.Need-level-mu-requires
+level-mu-requires c κs = search needs
+
+sub-result : tie.Need-sub-result
+sub-result c = omega (arith, level-top true (c .before .before .args .sr))
+
+cast-result : tie.Need-cast-result
+cast-result c = search needs
+
+returns : tie.Need-returns
+unfolding COMPRESS
+returns c = simp (eq-eqb _ _ (c .before .if1 .taken), c .level-mu .ensures)
+
+magnitude-requires : tie.Need-magnitude-requires
+magnitude-requires c κs = search needs
+
+level-mu-requires-2 : tie.Need-level-mu-requires-2
+level-mu-requires-2 c κs = search needs
+
+sub-result-2 : tie.Need-sub-result-2
+sub-result-2 c = omega (arith, level-top true (c .before .magnitude .result))
+
+cast-result-2 : tie.Need-cast-result-2
+cast-result-2 c = search needs
+
+returns-2 : tie.Need-returns-2
+unfolding COMPRESS
+returns-2 c = simp (ne-eqb _ _ (c .before .before .if1 .left), c .level-mu2 .ensures, c .before .magnitude .ensures)
+
+pub compress-mu-spec : {M : Type 1} → statement M
+compress-mu-spec =
+    tie.close
+    (tie.spec
+    level-mu-requires
+    sub-result
+    cast-result
+    returns
+    magnitude-requires
+    level-mu-requires-2
+    sub-result-2
+    cast-result-2
+    returns-2)
