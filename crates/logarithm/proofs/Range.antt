@@ -45,6 +45,10 @@ normalized-range D Y h low high =
     sides DL Y reach low high (decLe (Y / 4) DL)
 
 
+pub scaled-word : (DQLN Y : ℕ) → ADDA DQLN Y < 4096
+unfolding ADDA
+scaled-word DQLN Y = omega arith
+
 -- what a codeword's normalized output, from -264 to 456, becomes: -128 to 1,736
 pub scaled-range : (DQLN Y : ℕ) → DQLN < 4096 → (DQLN + 264) % 4096 ≤ 720 → 544 ≤ Y → Y ≤ 5120
     → (ADDA DQLN Y + 128) % 4096 ≤ 1864

@@ -1,23 +1,23 @@
+-- `engine::adaptation::next_scales` meets its contract: what it calls is what the definition says, group by group.
+-- Assumes nothing.
 use borrow.Author.Needs.{needs}
+use Rattle.scale.proofs.Range.{filtd-word}
+use Rattle.engine.specs.Groups.{scalesOf}
 use Rattle.engine.proofs.adaptation.next_scales.Statement.{statement}
 use Rattle.engine.proofs.adaptation.next_scales.Tie as tie
-use Rattle.engine.proofs.adaptation.next_scales.Reads as reads
-use Rattle.engine.proofs.adaptation.next_scales.Lts as lts
-use Rattle.scale.proofs.filtd.Reads as filtd-reads
-use Rattle.scale.proofs.filte.Reads as filte-reads
-use Rattle.scale.proofs.limb.Reads as limb-reads
 
 filtd-requires : tie.Need-filtd-requires
 filtd-requires c κs = search needs
 
 limb-requires : tie.Need-limb-requires
-limb-requires c κs = ?
+limb-requires c κs = rw (c .filtd .ensures) (filtd-word _ _)
 
 filte-requires : tie.Need-filte-requires
 filte-requires c κs = search needs
 
 returns : tie.Need-returns
-returns c = ?
+unfolding scalesOf
+returns c = rw (c .filte .ensures, c .before .limb .ensures, c .before .before .filtd .ensures)
 
 pub next-scales-spec : {M : Type 1} → statement M
 next-scales-spec = tie.close (tie.spec filtd-requires limb-requires filte-requires returns)

@@ -1,13 +1,12 @@
+-- `engine::adaptation::next_speeds` meets its contract: what it calls is what the definition says, group by group.
+-- Assumes nothing.
 use borrow.Author.Needs.{needs}
+use Prim.Native.Nat.{_≤_}
+use native.Mathlib.Omega.{arith}
+use Rattle.speed.proofs.Range.{filta-range, filtb-range, subtc-range}
+use Rattle.engine.specs.Groups.{speedsOf}
 use Rattle.engine.proofs.adaptation.next_speeds.Statement.{statement}
 use Rattle.engine.proofs.adaptation.next_speeds.Tie as tie
-use Rattle.engine.proofs.adaptation.next_speeds.Reads as reads
-use Rattle.engine.proofs.adaptation.next_speeds.Lts as lts
-use Rattle.speed.proofs.filta.Reads as filta-reads
-use Rattle.speed.proofs.filtb.Reads as filtb-reads
-use Rattle.speed.proofs.filtc.Reads as filtc-reads
-use Rattle.speed.proofs.subtc.Reads as subtc-reads
-use Rattle.speed.proofs.triga.Reads as triga-reads
 
 filta-requires : tie.Need-filta-requires
 filta-requires c κs = search needs
@@ -16,16 +15,22 @@ filtb-requires : tie.Need-filtb-requires
 filtb-requires c κs = search needs
 
 subtc-requires : tie.Need-subtc-requires
-subtc-requires c κs = ?
+subtc-requires c κs =
+    let dmsp : c .before .filta .result ≤ 3584 = rw (c .before .filta .ensures) (filta-range _ _ (c .before .before .pre .1) (c .before .before .pre .0 .short)) in
+    let dmlp : c .filtb .result ≤ 14336 = rw (c .filtb .ensures) (filtb-range _ _ (c .before .before .pre .1) (c .before .before .pre .0 .long)) in
+    omega arith
 
 filtc-requires : tie.Need-filtc-requires
-filtc-requires c κs = ?
+filtc-requires c κs =
+    let ax : c .subtc .result ≤ 1 = rw (c .subtc .ensures) (subtc-range _ _ _ _) in
+    omega arith
 
 triga-requires : tie.Need-triga-requires
 triga-requires c κs = search needs
 
 returns : tie.Need-returns
-returns c = ?
+unfolding speedsOf
+returns c = rw (c .triga .ensures, c .before .filtc .ensures, c .before .before .subtc .ensures, c .before .before .before .filtb .ensures, c .before .before .before .before .filta .ensures)
 
 pub next-speeds-spec : {M : Type 1} → statement M
 next-speeds-spec =

@@ -1,19 +1,24 @@
+-- `engine::adaptation::scale_factor` meets its contract: what it calls is what the definition says, group by group.
+-- Assumes nothing.
 use borrow.Author.Needs.{needs}
+use Prim.Native.Nat.{_≤_}
+use native.Mathlib.Omega.{arith}
+use Rattle.speed.proofs.Range.{lima-range}
+use Rattle.engine.specs.Estimate.{Y}
 use Rattle.engine.proofs.adaptation.scale_factor.Statement.{statement}
 use Rattle.engine.proofs.adaptation.scale_factor.Tie as tie
-use Rattle.engine.proofs.adaptation.scale_factor.Reads as reads
-use Rattle.engine.proofs.adaptation.scale_factor.Lts as lts
-use Rattle.scale.proofs.mix.Reads as mix-reads
-use Rattle.speed.proofs.lima.Reads as lima-reads
 
 lima-requires : tie.Need-lima-requires
 lima-requires c κs = search needs
 
 mix-requires : tie.Need-mix-requires
-mix-requires c κs = ?
+mix-requires c κs =
+    let al : c .lima .result ≤ 64 = rw (c .lima .ensures) (lima-range _) in
+    omega arith
 
 returns : tie.Need-returns
-returns c = ?
+unfolding Y
+returns c = rw (c .mix .ensures, c .before .lima .ensures)
 
 pub scale-factor-spec : {M : Type 1} → statement M
 scale-factor-spec = tie.close (tie.spec lima-requires mix-requires returns)

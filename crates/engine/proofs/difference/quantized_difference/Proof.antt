@@ -1,23 +1,32 @@
+-- `engine::difference::quantized_difference` meets its contract; a codeword's level and Y keep ANTILOG's exponent below 15.
+-- Assumes nothing.
 use borrow.Author.Needs.{needs}
+use Prim.Native.Nat.{_+_, _%_, _≤_, _<_}
+use native.Mathlib.Omega.{arith}
+use Rattle.logarithm.proofs.Range.{scaled-word}
+use Rattle.quantizer.proofs.Ranges.{reconst-near, reconst-signed}
+use Rattle.engine.specs.Difference.{difference}
+use Rattle.engine.proofs.Differences.{difference-scaled}
 use Rattle.engine.proofs.difference.quantized_difference.Statement.{statement}
 use Rattle.engine.proofs.difference.quantized_difference.Tie as tie
-use Rattle.engine.proofs.difference.quantized_difference.Reads as reads
-use Rattle.engine.proofs.difference.quantized_difference.Lts as lts
-use Rattle.logarithm.proofs.adda.Reads as adda-reads
-use Rattle.logarithm.proofs.antilog.Reads as antilog-reads
-use Rattle.quantizer.proofs.output.reconst.Reads as reconst-reads
 
 reconst-requires : tie.Need-reconst-requires
 reconst-requires c κs = search needs
 
 adda-requires : tie.Need-adda-requires
-adda-requires c κs = ?
+adda-requires c κs = rw (c .reconst .ensures) (reconst-near (c .before .pre .0) .word)
 
 antilog-requires : tie.Need-antilog-requires
-antilog-requires c κs = ?
+antilog-requires c κs =
+    let code = c .before .before .pre .0 in
+    let scaled : (c .adda .result + 128) % 4096 ≤ 1864 = rw (c .adda .ensures, c .before .reconst .ensures) (difference-scaled code (c .before .before .pre .1)) in
+    let word : c .adda .result < 4096 = rw (c .adda .ensures) (scaled-word _ _) in
+    let sign : c .before .reconst .result .dqs < 2 = rw (c .before .reconst .ensures) (reconst-signed code) in
+    omega arith
 
 returns : tie.Need-returns
-returns c = ?
+unfolding difference
+returns c = rw (c .antilog .ensures, c .before .adda .ensures, c .before .before .reconst .ensures)
 
 pub quantized-difference-spec : {M : Type 1} → statement M
 quantized-difference-spec =

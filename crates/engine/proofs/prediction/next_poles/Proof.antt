@@ -1,14 +1,9 @@
+-- `engine::prediction::next_poles` meets its contract: what it calls is what the definition says, group by group.
+-- Assumes nothing.
 use borrow.Author.Needs.{needs}
+use Rattle.engine.specs.Groups.{polesOf}
 use Rattle.engine.proofs.prediction.next_poles.Statement.{statement}
 use Rattle.engine.proofs.prediction.next_poles.Tie as tie
-use Rattle.engine.proofs.prediction.next_poles.Reads as reads
-use Rattle.engine.proofs.prediction.next_poles.Lts as lts
-use Rattle.predictor.proofs.coefficient.limc.Reads as limc-reads
-use Rattle.predictor.proofs.coefficient.limd.Reads as limd-reads
-use Rattle.predictor.proofs.coefficient.trigb.Reads as trigb-reads
-use Rattle.predictor.proofs.coefficient.upa1.Reads as upa1-reads
-use Rattle.predictor.proofs.coefficient.upa2.Reads as upa2-reads
-use Rattle.predictor.proofs.tone.tone.Reads as tone-reads
 
 upa2-requires : tie.Need-upa2-requires
 upa2-requires c κs = search needs
@@ -32,7 +27,8 @@ tone-requires : tie.Need-tone-requires
 tone-requires c κs = search needs
 
 returns : tie.Need-returns
-returns c = ?
+unfolding polesOf
+returns c = rw (c .tone .ensures, c .before .trigb2 .ensures, c .before .before .trigb .ensures, c .before .before .before .limd .ensures, c .before .before .before .before .upa1 .ensures, c .before .before .before .before .before .limc .ensures, c .before .before .before .before .before .before .upa2 .ensures)
 
 pub next-poles-spec : {M : Type 1} → statement M
 next-poles-spec =

@@ -1,9 +1,9 @@
+-- `engine::prediction::next_zeros` meets its contract: what it calls is what the definition says, group by group.
+-- Assumes nothing.
 use borrow.Author.Needs.{needs}
+use Rattle.engine.specs.Groups.{zerosOf}
 use Rattle.engine.proofs.prediction.next_zeros.Statement.{statement}
 use Rattle.engine.proofs.prediction.next_zeros.Tie as tie
-use Rattle.engine.proofs.prediction.next_zeros.Reads as reads
-use Rattle.engine.proofs.prediction.next_zeros.Lts as lts
-use Rattle.engine.proofs.prediction.next_zero.Reads as next-zero-reads
 
 array-read-next-zero : tie.Need-array-read-next-zero
 array-read-next-zero c = search needs
@@ -60,7 +60,8 @@ next-zero-requires-6 : tie.Need-next-zero-requires-6
 next-zero-requires-6 c κs = search needs
 
 returns : tie.Need-returns
-returns c = ?
+unfolding zerosOf
+returns c = rw (c .next-zero6 .ensures, c .before .next-zero5 .ensures, c .before .before .next-zero4 .ensures, c .before .before .before .next-zero3 .ensures, c .before .before .before .before .next-zero2 .ensures, c .before .before .before .before .before .next-zero .ensures)
 
 pub next-zeros-spec : {M : Type 1} → statement M
 next-zeros-spec =

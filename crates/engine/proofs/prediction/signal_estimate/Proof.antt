@@ -1,10 +1,9 @@
+-- `engine::prediction::signal_estimate` meets its contract: what it calls is what the definition says, group by group.
+-- Assumes nothing.
 use borrow.Author.Needs.{needs}
+use Rattle.engine.specs.Estimate.{predicted, WB}
 use Rattle.engine.proofs.prediction.signal_estimate.Statement.{statement}
 use Rattle.engine.proofs.prediction.signal_estimate.Tie as tie
-use Rattle.engine.proofs.prediction.signal_estimate.Reads as reads
-use Rattle.engine.proofs.prediction.signal_estimate.Lts as lts
-use Rattle.predictor.proofs.estimate.accum.Reads as accum-reads
-use Rattle.predictor.proofs.estimate.fmult.Reads as fmult-reads
 
 fmult-requires : tie.Need-fmult-requires
 fmult-requires c κs = search needs
@@ -70,7 +69,8 @@ accum-requires : tie.Need-accum-requires
 accum-requires c κs = search needs
 
 returns : tie.Need-returns
-returns c = ?
+unfolding predicted WB
+returns c = rw (c .accum .ensures, c .before .fmult8 .ensures, c .before .before .fmult7 .ensures, c .before .before .before .fmult6 .ensures, c .before .before .before .before .fmult5 .ensures, c .before .before .before .before .before .fmult4 .ensures, c .before .before .before .before .before .before .fmult3 .ensures, c .before .before .before .before .before .before .before .fmult2 .ensures, c .before .before .before .before .before .before .before .before .fmult .ensures)
 
 pub signal-estimate-spec : {M : Type 1} → statement M
 signal-estimate-spec =

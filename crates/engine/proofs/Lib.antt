@@ -1,0 +1,4 @@
+pub mod Estimates
+pub mod Differences
+pub mod Assembly
+pub mod Keeps
