@@ -80,14 +80,14 @@ module _ (s : State) (Ic : ℕ) (i : InRange s) (code : CoreCodeword (s .core) I
               dq3 = i .differences .dq2;
               dq4 = i .differences .dq3;
               dq5 = i .differences .dq4;
-              dq6 = i .differences .dq5
+              dq6 = i .differences .dq5;
             };
         signal1 = floatb-range (SR s Ic) sr-word;
         signal2 = i .signal1;
         sign1 = omega (arith, pk0-bit);
         sign2 = i .sign1;
         tone = omega (arith, trigb-range (TR s Ic) (TDP s Ic) 2 tdp-bit);
-        cores = i .cores
+        cores = i .cores;
       }
 
 -- the core is fixed by the state

@@ -83,5 +83,5 @@ module _ (s : State) (Ic : ℕ) where
         pk1 = PK0;
         pk2 = s .pk1;
         td = TRIGB TR TDP;
-        core = s .core
+        core = s .core;
       }

@@ -4,8 +4,16 @@ ghost use Prim.Native.Nat.{_≤_, _<_};
 ghost use Rattle.state.specs.InRange.{InRange};
 ghost use Rattle.engine.specs.Estimate.{Y};
 ghost use Rattle.engine.specs.Groups.{scalesOf, speedsOf};
-use scale::{filtd, filte, limb, mix};
-use speed::{filta, filtb, filtc, lima, subtc, triga};
+use scale::filtd;
+use scale::filte;
+use scale::limb;
+use scale::mix;
+use speed::filta;
+use speed::filtb;
+use speed::filtc;
+use speed::lima;
+use speed::subtc;
+use speed::triga;
 use state::State;
 
 pub struct Scales {
@@ -31,7 +39,10 @@ pub fn next_scales(s: State, wi: u16, y: u16) -> Scales
     ensures { λ r. ⌜ r ≡ scalesOf s wi y ⌝ }
 {
     let yup = limb(filtd(wi, y));
-    Scales { yu: yup, yl: filte(yup, s.yl) }
+    Scales {
+        yu: yup,
+        yl: filte(yup, s.yl),
+    }
 }
 
 pub fn next_speeds(s: State, fi: u16, tdp: u16, tr: u16, y: u16) -> Speeds

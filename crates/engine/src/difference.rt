@@ -3,7 +3,8 @@ ghost use mathlib.Core.Path.{_≡_};
 ghost use Rattle.words.specs.Within.{Within};
 ghost use Rattle.quantizer.specs.Codeword.{Codeword};
 ghost use Rattle.engine.specs.Difference.{difference};
-use logarithm::{adda, antilog};
+use logarithm::adda;
+use logarithm::antilog;
 use quantizer::output::reconst;
 
 pub fn quantized_difference(width: u8, i: u8, y: u16) -> u16

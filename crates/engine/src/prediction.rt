@@ -2,8 +2,15 @@
 ghost use mathlib.Core.Path.{_≡_};
 ghost use Rattle.engine.specs.Estimate.{predicted};
 ghost use Rattle.engine.specs.Groups.{polesOf, zeroOf, zerosOf};
-use predictor::coefficient::{limc, limd, trigb, upa1, upa2, upb};
-use predictor::estimate::{Estimate, accum, fmult};
+use predictor::coefficient::limc;
+use predictor::coefficient::limd;
+use predictor::coefficient::trigb;
+use predictor::coefficient::upa1;
+use predictor::coefficient::upa2;
+use predictor::coefficient::upb;
+use predictor::estimate::Estimate;
+use predictor::estimate::accum;
+use predictor::estimate::fmult;
 use predictor::reconstruct::xor;
 use predictor::tone::tone;
 use state::State;

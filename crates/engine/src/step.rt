@@ -5,14 +5,22 @@ ghost use Rattle.quantizer.specs.Codeword.{CoreCodeword};
 ghost use Rattle.state.specs.InRange.{InRange};
 ghost use Rattle.engine.specs.Estimate.{estimateOf};
 ghost use Rattle.engine.specs.Advance.{advanceOf};
-use crate::adaptation::{next_scales, next_speeds, scale_factor};
-use crate::difference::quantized_difference;
-use crate::prediction::{next_poles, next_zeros, signal_estimate};
 use crate::Estimated;
+use crate::adaptation::next_scales;
+use crate::adaptation::next_speeds;
+use crate::adaptation::scale_factor;
+use crate::difference::quantized_difference;
+use crate::prediction::next_poles;
+use crate::prediction::next_zeros;
+use crate::prediction::signal_estimate;
 use predictor::coefficient::trigb;
-use predictor::reconstruct::{addb, addc, floata, floatb};
+use predictor::reconstruct::addb;
+use predictor::reconstruct::addc;
+use predictor::reconstruct::floata;
+use predictor::reconstruct::floatb;
 use predictor::tone::trans;
-use quantizer::multiplier::{functf, functw};
+use quantizer::multiplier::functf;
+use quantizer::multiplier::functw;
 use state::State;
 
 pub fn estimate(s: State) -> Estimated

@@ -11,8 +11,13 @@ use Rattle.words.specs.Notation.{pick}
 use Rattle.words.specs.Length.{bitLength}
 use Rattle.words.proofs.Length.{length-le}
 use Rattle.words.proofs.Pick.{by-pick}
+use Rattle.logarithm.specs.Difference.{SUBTA}
 use Rattle.logarithm.specs.Logarithm.{LOG, SUBTB, ADDA, ANTILOG}
 use Rattle.logarithm.proofs.Magnitude.{DQMAG, antilog-negative, antilog-positive, magnitude-small}
+
+pub subta-word : (SL SE : ℕ) → SUBTA SL SE < 65536
+unfolding SUBTA
+subta-word SL SE = omega arith
 
 -- DL has 4 exponent bits, 14 at most, and 7 mantissa bits
 pub log-range : (D : ℕ) → D < 65536 → LOG D .dl ≤ 1919
@@ -43,7 +48,6 @@ normalized-range D Y h low high =
     let DL = LOG D .dl in
     let reach : DL ≤ 1919 = log-range D h in
     sides DL Y reach low high (decLe (Y / 4) DL)
-
 
 pub scaled-word : (DQLN Y : ℕ) → ADDA DQLN Y < 4096
 unfolding ADDA

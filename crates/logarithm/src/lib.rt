@@ -29,7 +29,10 @@ pub fn log(d: u16) -> Logged
     let dqm = choose(ds == 0, d, minus(0, d) % 32768);
     let exp = bit_length(dqm >> 1);
     let mant = ((dqm as u32) * 128 >> exp) % 128;
-    Logged { dl: exp * 128 + (mant as u16), ds }
+    Logged {
+        dl: exp * 128 + (mant as u16),
+        ds,
+    }
 }
 
 pub fn subtb(dl: u16, y: u16) -> u16

@@ -32,5 +32,5 @@ mantissa-range MAG word =
     cases (eqb MAG 0)
     (λ e. rw e (omega arith))
     (λ e.
-      let one : MAG ≡ 0 → ⊥ = eqb-false MAG 0 e in
-      rw e (shifted MAG (bitLength MAG) (omega arith) (span .high) (span .low)))
+    let one : MAG ≡ 0 → ⊥ = eqb-false MAG 0 e in
+    rw e (shifted MAG (bitLength MAG) (omega arith) (span .high) (span .low)))

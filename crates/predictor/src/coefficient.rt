@@ -3,8 +3,10 @@
 ghost use mathlib.Core.Path.{_≡_};
 ghost use Prim.Native.Nat.{_<_};
 ghost use Rattle.predictor.specs.Coefficient.{LIMC, LIMD, TRIGB, UL, UPA1, FA, UGA2, UPA2, UPB};
-use words::choice::{choose, choose_wide};
-use words::wrap::{minus, plus};
+use words::choice::choose;
+use words::choice::choose_wide;
+use words::wrap::minus;
+use words::wrap::plus;
 
 pub fn limc(a2t: u16) -> u16
     ensures { λ r. ⌜ r ≡ LIMC a2t ⌝ }
@@ -65,11 +67,7 @@ fn uga2(uga2b: u32, sigpk: u16) -> u16
     ensures { λ r. ⌜ r ≡ UGA2 uga2b sigpk ⌝ }
 {
     let gain = (uga2b >> 7) as u16;
-    choose(
-        sigpk == 0,
-        choose(uga2b >> 16 == 0, gain, gain + 64512),
-        0,
-    )
+    choose(sigpk == 0, choose(uga2b >> 16 == 0, gain, gain + 64512), 0)
 }
 
 pub fn upa2(pk0: u16, pk1: u16, pk2: u16, a1: u16, a2: u16, sigpk: u16) -> u16
@@ -77,7 +75,11 @@ pub fn upa2(pk0: u16, pk1: u16, pk2: u16, a1: u16, a2: u16, sigpk: u16) -> u16
 {
     let uga2a = choose_wide(pk0 ^ pk2 == 0, 16384, 114688);
     let gain = uga2((uga2a + fa(pk0 ^ pk1, a1)) % 131072, sigpk);
-    let ula2 = choose(a2 >> 15 == 0, minus(0, a2 >> 7), minus(0, (a2 >> 7) + 65024));
+    let ula2 = choose(
+        a2 >> 15 == 0,
+        minus(0, a2 >> 7),
+        minus(0, (a2 >> 7) + 65024),
+    );
     plus(a2, plus(gain, ula2))
 }
 

@@ -4,7 +4,8 @@ ghost use Prim.Native.Nat.{_≤_};
 ghost use Rattle.predictor.specs.Estimate.{FMULT, WAnMAG, ACCUM};
 use super::float::float_of;
 use words::choice::choose;
-use words::wrap::{minus, plus};
+use words::wrap::minus;
+use words::wrap::plus;
 
 pub struct Estimate {
     pub se: u16,
@@ -19,11 +20,7 @@ pub fn fmult(an: u16, srn: u16) -> u16
     let wanexp = (srn >> 6) % 16 + a.exp;
     let wanmant = ((srn % 64) * a.mant + 48) >> 4;
     let wanmag = product_magnitude(wanexp, wanmant);
-    choose(
-        (srn >> 10) ^ (an >> 15) == 0,
-        wanmag,
-        minus(0, wanmag),
-    )
+    choose((srn >> 10) ^ (an >> 15) == 0, wanmag, minus(0, wanmag))
 }
 
 // "Convert floating point to magnitude"
@@ -51,5 +48,8 @@ pub fn accum(
 {
     let sezi = plus(plus(plus(plus(plus(wb1, wb2), wb3), wb4), wb5), wb6);
     let sei = plus(plus(sezi, wa2), wa1);
-    Estimate { se: sei >> 1, sez: sezi >> 1 }
+    Estimate {
+        se: sei >> 1,
+        sez: sezi >> 1,
+    }
 }

@@ -14,5 +14,8 @@ pub fn float_of(mag: u16) -> Floating
 {
     let exp = bit_length(mag);
     let mant = choose_wide(mag == 0, 32, (mag as u32) * 64 >> exp);
-    Floating { exp, mant: mant as u16 }
+    Floating {
+        exp,
+        mant: mant as u16,
+    }
 }

@@ -5,7 +5,8 @@ ghost use Prim.Native.Nat.{_<_};
 ghost use Rattle.predictor.specs.Reconstruct.{DQI, SEI, ADDB, ADDC, FLOATA, FLOATB, XOR};
 use super::float::float_of;
 use words::choice::choose;
-use words::wrap::{minus, plus};
+use words::wrap::minus;
+use words::wrap::plus;
 
 pub struct Sign {
     pub pk0: u16,

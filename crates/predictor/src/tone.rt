@@ -2,7 +2,8 @@
 ghost use mathlib.Core.Path.{_≡_};
 ghost use Prim.Native.Nat.{_<_};
 ghost use Rattle.predictor.specs.Tone.{TONE, TRANS};
-use words::choice::{choose, choose_wide};
+use words::choice::choose;
+use words::choice::choose_wide;
 
 pub fn tone(a2p: u16) -> u16
     ensures { λ r. ⌜ r ≡ TONE a2p ⌝ }

@@ -14,5 +14,5 @@ unfolding codeword
 allowed-thinned {v} {w} Y I D hv hw h a =
     record {
       word = a .word;
-      coded = nesting hv hw h (normalized-word (LOG D .dl) Y) (log-sign D (a .word)) ∙ ap (λ (J : ℕ). J >> (w - v)) (a .coded)
+      coded = nesting hv hw h (normalized-word (LOG D .dl) Y) (log-sign D (a .word)) ∙ ap (λ (J : ℕ). J >> (w - v)) (a .coded);
     }

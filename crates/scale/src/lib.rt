@@ -3,8 +3,8 @@
 ghost use mathlib.Core.Path.{_≡_};
 ghost use Prim.Native.Nat.{_≤_, _<_};
 ghost use Rattle.scale.specs.Scale.{FILTD, FILTE, LIMB, MIX};
-
-use words::choice::{choose, choose_wide};
+use words::choice::choose;
+use words::choice::choose_wide;
 
 pub fn filtd(wi: u16, y: u16) -> u16
     ensures { λ r. ⌜ r ≡ FILTD wi y ⌝ }

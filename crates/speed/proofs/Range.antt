@@ -18,10 +18,10 @@ filta-range FI DMS f h =
     cases (eqb (DIF / 4096) 0)
     (λ e. rw e (omega (arith, eqb-true (DIF / 4096) 0 e)))
     (λ e.
-      let below : DIF / 4096 ≡ 0 → ⊥ = eqb-false (DIF / 4096) 0 e in
-      let fall : DIF + DMS ≡ FI * 512 + 8192 = omega arith in
-      let wrapped : (DIF / 32 + 3840 + DMS) % 4096 + 4096 ≡ DIF / 32 + 3840 + DMS = omega arith in
-      rw e (omega arith))
+    let below : DIF / 4096 ≡ 0 → ⊥ = eqb-false (DIF / 4096) 0 e in
+    let fall : DIF + DMS ≡ FI * 512 + 8192 = omega arith in
+    let wrapped : (DIF / 32 + 3840 + DMS) % 4096 + 4096 ≡ DIF / 32 + 3840 + DMS = omega arith in
+    rw e (omega arith))
 
 pub filtb-range : (FI DML : ℕ) → FI ≤ 7 → DML ≤ 14336 → FILTB FI DML ≤ 14336
 unfolding FILTB
@@ -30,10 +30,10 @@ filtb-range FI DML f h =
     cases (eqb (DIF / 16384) 0)
     (λ e. rw e (omega (arith, eqb-true (DIF / 16384) 0 e)))
     (λ e.
-      let below : DIF / 16384 ≡ 0 → ⊥ = eqb-false (DIF / 16384) 0 e in
-      let fall : DIF + DML ≡ FI * 2048 + 32768 = omega arith in
-      let wrapped : (DIF / 128 + 16128 + DML) % 16384 + 16384 ≡ DIF / 128 + 16128 + DML = omega arith in
-      rw e (omega arith))
+    let below : DIF / 16384 ≡ 0 → ⊥ = eqb-false (DIF / 16384) 0 e in
+    let fall : DIF + DML ≡ FI * 2048 + 32768 = omega arith in
+    let wrapped : (DIF / 128 + 16128 + DML) % 16384 + 16384 ≡ DIF / 128 + 16128 + DML = omega arith in
+    rw e (omega arith))
 
 pub filtc-range : (AX AP : ℕ) → AX ≤ 1 → AP ≤ 512 → FILTC AX AP ≤ 512
 unfolding FILTC
@@ -42,10 +42,10 @@ filtc-range AX AP f h =
     cases (eqb (DIF / 1024) 0)
     (λ e. rw e (omega (arith, eqb-true (DIF / 1024) 0 e)))
     (λ e.
-      let below : DIF / 1024 ≡ 0 → ⊥ = eqb-false (DIF / 1024) 0 e in
-      let fall : DIF + AP ≡ AX * 512 + 2048 = omega arith in
-      let wrapped : (DIF / 16 + 896 + AP) % 1024 + 1024 ≡ DIF / 16 + 896 + AP = omega arith in
-      rw e (omega arith))
+    let below : DIF / 1024 ≡ 0 → ⊥ = eqb-false (DIF / 1024) 0 e in
+    let fall : DIF + AP ≡ AX * 512 + 2048 = omega arith in
+    let wrapped : (DIF / 16 + 896 + AP) % 1024 + 1024 ≡ DIF / 16 + 896 + AP = omega arith in
+    rw e (omega arith))
 
 pub lima-range : (AP : ℕ) → LIMA AP ≤ 64
 unfolding LIMA

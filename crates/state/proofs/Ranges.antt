@@ -45,7 +45,7 @@ words-say dq t =
       dq3 = float-says 14 (getD dq 2 0) (r .1 .1 .0);
       dq4 = float-says 14 (getD dq 3 0) (r .1 .1 .1 .0);
       dq5 = float-says 14 (getD dq 4 0) (r .1 .1 .1 .1 .0);
-      dq6 = float-says 14 (getD dq 5 0) (r .1 .1 .1 .1 .1 .0)
+      dq6 = float-says 14 (getD dq 5 0) (r .1 .1 .1 .1 .1 .0);
     }
 
 words-of : {dq : List ℕ} → FloatWords dq → floatWords dq ≡ true
@@ -71,7 +71,7 @@ range-says s t =
       sign1 = within-says 0 1 (s .pk1) (g .1 .1 .1 .0) .high;
       sign2 = within-says 0 1 (s .pk2) (g .1 .1 .1 .1 .0) .high;
       tone = within-says 0 1 (s .td) (g .1 .1 .1 .1 .1 .0) .high;
-      cores = within-says 2 4 (s .core) (r .1 .1 .0)
+      cores = within-says 2 4 (s .core) (r .1 .1 .0);
     }
 
 upto : {greatest n : ℕ} → n ≤ greatest → within 0 greatest n ≡ true
@@ -80,10 +80,13 @@ upto h = within-of (record { low = zero-le; high = h })
 pub range-of : (s : State) → InRange s → inRange s ≡ true
 unfolding inRange adaptationInRange signalsInRange
 range-of s i =
-    every-of _
-    (every-of _ (within-of (i .fast), (within-of (i .slow), (upto (i .short), (upto (i .long), (upto (i .speed), tt))))),
-    (every-of _ (words-of (i .differences), (float-of (i .signal1), (float-of (i .signal2), (upto (i .sign1), (upto (i .sign2), (upto (i .tone), tt)))))),
-    (within-of (i .cores), tt)))
+    every-of _ (
+      every-of _ (within-of (i .fast), (within-of (i .slow), (upto (i .short), (upto (i .long), (upto (i .speed), tt))))),
+      (
+        every-of _ (words-of (i .differences), (float-of (i .signal1), (float-of (i .signal2), (upto (i .sign1), (upto (i .sign2), (upto (i .tone), tt)))))),
+        (within-of (i .cores), tt),
+      ),
+    )
 
 pub reset-in-range : (core : ℕ) → Within 2 4 core → InRange (resetOf core)
 unfolding resetOf
@@ -102,5 +105,5 @@ reset-in-range core w =
       sign1 = omega arith;
       sign2 = omega arith;
       tone = omega arith;
-      cores = w
+      cores = w;
     }

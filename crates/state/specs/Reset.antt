@@ -20,5 +20,5 @@ resetOf core =
       pk1 = 0;
       pk2 = 0;
       td = 0;
-      core = core
+      core = core;
     }

@@ -106,7 +106,7 @@ returns c =
       pk1 = p0 i;
       pk2 = s .pk1;
       td = td-is s ic is t tdp (c .trigb .ensures) i;
-      core = s .core
+      core = s .core;
     }
 
 pub advance-spec : {M : Type 1} → statement M

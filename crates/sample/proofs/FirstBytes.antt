@@ -1,0 +1,40 @@
+-- 01's twelve first bytes: from reset at any core, encoder width 5, the first codeword. One claim over one list.
+-- Assumes nothing.
+use mathlib.Core.List.{List, [], _∷_, map}
+use mathlib.Core.Path.{_≡_, refl}
+use Prim.Native.Nat.{ℕ}
+use Rattle.words.specs.Length.{rows, bitLength}
+use Rattle.g711.specs.G711.{outputs-mu, outputs-A}
+use Rattle.g711.specs.Expand.{SS-mu, SS-A, EXPAND}
+use Rattle.logarithm.specs.Difference.{SUBTA}
+use Rattle.logarithm.specs.Logarithm.{LOG, SUBTB}
+use Rattle.scale.specs.Scale.{MIX}
+use Rattle.speed.specs.Speed.{LIMA}
+use Rattle.predictor.specs.Float.{EXP, MANT}
+use Rattle.predictor.specs.Estimate.{WAnMAG, FMULT, ACCUM}
+use Rattle.quantizer.specs.Table.{find}
+use Rattle.quantizer.specs.Decision.{table11, decisions, QUAN}
+use Rattle.state.specs.Reset.{resetOf}
+use Rattle.engine.specs.Estimate.{Y, WB, predicted, SE}
+use Rattle.sample.specs.Encode.{D, normalOf, I, encodeOf}
+
+-- a law, a byte and the codeword that is due
+pub record Row : Type 0 where
+  pub law : ℕ
+  pub byte : ℕ
+  pub due : ℕ
+
+abbrev pub mu : ℕ → ℕ → Row
+mu byte due = record { law = 0; byte = byte; due = due }
+
+abbrev pub a : ℕ → ℕ → Row
+a byte due = record { law = 1; byte = byte; due = due }
+
+abbrev pub twelve : List Row
+twelve =
+    mu 0xFF 0b00000 ∷ mu 0x7F 0b00000 ∷ mu 0xFE 0b00001 ∷ mu 0x7E 0b11110 ∷ mu 0xFD 0b00011 ∷ mu 0xFC 0b00101 ∷ mu 0x80 0b01111 ∷ mu 0x00 0b10000 ∷
+    a 0xD5 0b00001 ∷ a 0x55 0b11110 ∷ a 0xD4 0b00101 ∷ a 0x2A 0b10000 ∷ []
+
+pub first-bytes : (core : ℕ) → map (λ (r : Row). encodeOf (resetOf core) (r .law) 5 (r .byte) .codeword) twelve ≡ map (λ (r : Row). r .due) twelve
+unfolding D normalOf I encodeOf rows bitLength outputs-mu outputs-A SS-mu SS-A EXPAND SUBTA LOG SUBTB MIX LIMA EXP MANT WAnMAG FMULT ACCUM find table11 decisions QUAN resetOf Y WB predicted SE
+first-bytes core = refl

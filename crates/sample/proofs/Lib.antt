@@ -1,0 +1,5 @@
+pub mod Normals
+pub mod Cores
+pub mod Adjusting
+pub mod Tracks
+pub mod FirstBytes

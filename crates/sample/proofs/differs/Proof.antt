@@ -1,0 +1,14 @@
+-- `sample::differs` meets its contract: what it calls and tests is what the definition says.
+-- Assumes nothing.
+use borrow.Author.Tests.{eq-eqb, ne-eqb}
+use Rattle.sample.proofs.differs.Statement.{statement}
+use Rattle.sample.proofs.differs.Tie as tie
+
+returns : tie.Need-returns
+returns c = simp (eq-eqb _ _ (c .if1 .taken))
+
+returns-2 : tie.Need-returns-2
+returns-2 c = simp (ne-eqb _ _ (c .if1 .left))
+
+pub differs-spec : {M : Type 1} → statement M
+differs-spec = tie.close (tie.spec returns returns-2)
