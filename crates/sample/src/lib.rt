@@ -50,7 +50,7 @@ pub fn encode_sample(s: State, law: u8, width: u8, byte: u8) -> Encoded
     let e = estimate(s);
     let n = normalized(s, e, law, byte);
     let i = quan(width, n.dln, n.ds);
-    let next = advance(s, e, i >> (width - s.core));
+    let next = advance(s, e, core_bits(s, width, i));
     Encoded {
         codeword: i,
         state: next,
@@ -62,7 +62,7 @@ pub fn decode_sample(s: State, law: u8, width: u8, i: u8) -> Decoded
     ensures { λ r. ⌜ r ≡ decodeOf s law width i ⌝ }
 {
     let e = estimate(s);
-    let next = advance(s, e, i >> (width - s.core));
+    let next = advance(s, e, core_bits(s, width, i));
     let sp = decoded_byte(s, e, law, width, i);
     let sd = adjusted(s, e, law, width, i, sp);
     Decoded {
@@ -70,6 +70,14 @@ pub fn decode_sample(s: State, law: u8, width: u8, i: u8) -> Decoded
         moved: differs(sd, sp),
         state: next,
     }
+}
+
+// The bit masking of section 6.2.3: what alone moves the state
+fn core_bits(s: State, width: u8, i: u8) -> u8
+    requires { ⌜ Pair s width ⌝ }
+    ensures { λ r. ⌜ r ≡ Ic s width i ⌝ }
+{
+    i >> (width - s.core)
 }
 
 // The difference of a PCM byte from the estimate, as a normalized logarithm: the encoder's D, and the decoder's DX

@@ -1,12 +1,18 @@
-//! Stand-ins for the ITU's test sequences of G.727, which could not be had: how they are made, the
-//! second codec's answers to them, and the comparison with another codec's. docs/SEQUENCES.md describes
-//! all of it; 004 is the ITU's description of its own sequences.
+//! Stand-ins for the ITU's test sequences of G.727, which could not be had: how they are made, the second
+//! codec's answers to them, and the comparison with another codec's answers. docs/SEQUENCES.md describes
+//! all of it. 004 is the ITU's description of its own sequences.
 
 pub mod checksum;
 pub mod codewords;
+pub mod compare;
+pub mod files;
+pub mod lines;
 pub mod magnitudes;
 pub mod modem;
+pub mod names;
+pub mod output;
 pub mod pcm;
+pub mod play;
 pub mod signals;
 pub mod signs;
 pub mod sine;

@@ -76,9 +76,13 @@ fn secondary(length: u32) -> Vec<f64> {
     let mut steps = 0;
     (0..length)
         .map(|m| {
-            let frequency = if 75 * m / TURN % 2 == 0 { 390 } else { 450 };
+            let frequency = [390, 450][(75 * m / TURN % 2) as usize];
             let on = m % CYCLE < SECONDARY_ON;
-            let value = if on { SECONDARY_PEAK * sine(steps) } else { 0.0 };
+            let value = if on {
+                SECONDARY_PEAK * sine(steps)
+            } else {
+                0.0
+            };
             steps = (steps + frequency) % TURN;
             value
         })

@@ -1,7 +1,6 @@
 -- `sample::decode_sample` meets its contract; the core bits of the received codeword move the state, the rest of it the output alone.
 -- Assumes nothing.
 use borrow.Author.Needs.{needs}
-use Rattle.sample.specs.Pair.{Ic}
 use Rattle.sample.specs.Decode.{SD, moved, decodeOf}
 use Rattle.sample.proofs.Cores.{core-codeword}
 use Rattle.sample.proofs.decode_sample.Statement.{statement}
@@ -10,17 +9,13 @@ use Rattle.sample.proofs.decode_sample.Tie as tie
 estimate-requires : tie.Need-estimate-requires
 estimate-requires c κs = search needs
 
-sub-advance : tie.Need-sub-advance
-sub-advance c = search needs
-
-shr-advance : tie.Need-shr-advance
-shr-advance c = search needs
+core-bits-requires : tie.Need-core-bits-requires
+core-bits-requires c κs = search needs
 
 advance-requires : tie.Need-advance-requires
-unfolding Ic
 advance-requires c κs =
     let at = c .before .before in
-    (at .pre .0, c .before .estimate .ensures, core-codeword (at .args .s) (at .pre .0) (at .pre .1) (at .pre .2 .short))
+    (at .pre .0, c .before .estimate .ensures, rw (c .core-bits .ensures) (core-codeword (at .args .s) (at .pre .0) (at .pre .1) (at .pre .2 .short)))
 
 decoded-byte-requires : tie.Need-decoded-byte-requires
 decoded-byte-requires c κs = search needs
@@ -32,16 +27,15 @@ differs-requires : tie.Need-differs-requires
 differs-requires c κs = search needs
 
 returns : tie.Need-returns
-unfolding decodeOf moved SD Ic
-returns c = rw (c .differs .ensures, c .before .adjusted .ensures, c .before .before .decoded-byte .ensures, c .before .before .before .advance .ensures)
+unfolding decodeOf moved SD
+returns c = rw (c .differs .ensures, c .before .adjusted .ensures, c .before .before .decoded-byte .ensures, c .before .before .before .advance .ensures, c .before .before .before .before .core-bits .ensures)
 
 pub decode-sample-spec : {M : Type 1} → statement M
 decode-sample-spec =
     tie.close
     (tie.spec
     estimate-requires
-    sub-advance
-    shr-advance
+    core-bits-requires
     advance-requires
     decoded-byte-requires
     adjusted-requires

@@ -1,0 +1,20 @@
+-- `sample::core_bits` meets its contract, which is its own text.
+-- Assumes nothing.
+use borrow.Author.Needs.{needs}
+use mathlib.Core.Path.{refl}
+use Rattle.sample.specs.Pair.{Ic}
+use Rattle.sample.proofs.core_bits.Statement.{statement}
+use Rattle.sample.proofs.core_bits.Tie as tie
+
+sub-result : tie.Need-sub-result
+sub-result c = search needs
+
+shr-result : tie.Need-shr-result
+shr-result c = search needs
+
+returns : tie.Need-returns
+unfolding Ic
+returns c = refl
+
+pub core-bits-spec : {M : Type 1} → statement M
+core-bits-spec = tie.close (tie.spec sub-result shr-result returns)
