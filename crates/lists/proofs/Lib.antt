@@ -1,2 +1,4 @@
 pub mod Runs
 pub mod Filled
+pub mod Front
+pub mod Tables

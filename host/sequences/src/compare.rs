@@ -12,8 +12,9 @@ pub struct Difference {
 
 const NO_LINE: &str = "(no line)";
 
-/// The first place where the lists differ. Lines of the other text that do not begin with the name of a
-/// sequence are passed over. A line that says that states differ is a difference even where both say so.
+/// The first place where the lists differ. Lines of the other text that do not begin with the name
+/// of a sequence are passed over. A line that says that states differ is a difference even where
+/// both say so.
 pub fn first_difference(ours: &[String], other_text: &str) -> Option<Difference> {
     let theirs = sequence_lines(other_text);
     let count = ours.len().max(theirs.len());

@@ -69,45 +69,57 @@ pub fn path(kind: Kind, law: Law) -> String {
     format!("{FOLDER}/{}.{suffix}", kind.stem())
 }
 
-impl Inputs {
-    fn each(content: impl Fn(Kind, Law) -> Result<Vec<u8>, String>) -> Result<Inputs, String> {
-        let mut found = Vec::new();
-        for kind in Kind::ALL {
-            for law in Law::BOTH {
-                let octets = content(kind, law)?;
-                found.push(Input { kind, law, octets });
-            }
+fn all_six() -> impl Iterator<Item = (Kind, Law)> {
+    Kind::ALL
+        .into_iter()
+        .flat_map(|kind| Law::BOTH.map(|law| (kind, law)))
+}
+
+impl Input {
+    fn made(kind: Kind, law: Law) -> Input {
+        let levels = kind.levels().into_iter();
+        Input {
+            kind,
+            law,
+            octets: levels.map(|level| compress(law, level)).collect(),
         }
-        Ok(Inputs(found))
     }
 
+    fn read(kind: Kind, law: Law) -> Result<Input, String> {
+        let path = path(kind, law);
+        let octets = fs::read(in_repository(&path)).map_err(|why| format!("{path}: {why}"))?;
+        if octets.len() == kind.samples() {
+            Ok(Input { kind, law, octets })
+        } else {
+            Err(format!("{path}: not {} octets", kind.samples()))
+        }
+    }
+
+    fn write(&self) -> Result<(), String> {
+        let path = path(self.kind, self.law);
+        fs::write(in_repository(&path), &self.octets).map_err(|why| format!("{path}: {why}"))
+    }
+}
+
+impl Inputs {
     pub fn made() -> Inputs {
-        let octets = |kind: Kind, law| {
-            let levels = kind.levels().into_iter();
-            Ok(levels.map(|level| compress(law, level)).collect())
-        };
-        Inputs::each(octets).expect("nothing is read")
+        Inputs(
+            all_six()
+                .map(|(kind, law)| Input::made(kind, law))
+                .collect(),
+        )
     }
 
     pub fn read() -> Result<Inputs, String> {
-        Inputs::each(|kind, law| {
-            let path = path(kind, law);
-            let octets = fs::read(in_repository(&path)).map_err(|why| format!("{path}: {why}"))?;
-            match octets.len() == kind.samples() {
-                true => Ok(octets),
-                false => Err(format!("{path}: not {} octets", kind.samples())),
-            }
-        })
+        all_six()
+            .map(|(kind, law)| Input::read(kind, law))
+            .collect::<Result<_, _>>()
+            .map(Inputs)
     }
 
     pub fn write(&self) -> Result<(), String> {
         fs::create_dir_all(in_repository(FOLDER)).map_err(|why| format!("{FOLDER}: {why}"))?;
-        for input in &self.0 {
-            let path = path(input.kind, input.law);
-            fs::write(in_repository(&path), &input.octets)
-                .map_err(|why| format!("{path}: {why}"))?;
-        }
-        Ok(())
+        self.0.iter().try_for_each(Input::write)
     }
 
     pub fn octets(&self, kind: Kind, law: Law) -> &[u8] {

@@ -1,6 +1,6 @@
-//! Stand-ins for the ITU's test sequences of G.727, which could not be had: how they are made, the second
-//! codec's answers to them, and the comparison with another codec's answers. docs/SEQUENCES.md describes
-//! all of it. 004 is the ITU's description of its own sequences.
+//! Stand-ins for the ITU's test sequences of G.727, which could not be had: how they are made, the
+//! second codec's answers to them, and the comparison with another codec's answers.
+//! docs/SEQUENCES.md describes all of it. 004 is the ITU's description of its own sequences.
 
 pub mod checksum;
 pub mod codewords;

@@ -17,7 +17,8 @@ const CARRIER_ON: u32 = 640;
 const SECONDARY_ON: u32 = 500;
 
 /// The part with a switched carrier, and after it the part with a carrier that stays on and a
-/// secondary channel that is switched. The symbols of the second go on where those of the first end.
+/// secondary channel that is switched. The symbols of the second go on where those of the first
+/// end.
 pub fn both_parts(length: u32) -> Vec<i32> {
     let phases = phases((2 * length / SYMBOL + 2) as usize);
     let switched = (0..length).map(|n| match n % CYCLE {

@@ -22,7 +22,8 @@ pub struct Sequence {
     pub input: Input,
     pub width: u8,
     pub core: u8,
-    /// The law before the encoder. Where there is only a decoder, its homing sequence has this law too.
+    /// The law before the encoder. Where there is only a decoder, its homing sequence has this law
+    /// too.
     pub law_in: Law,
     pub law_out: Law,
 }
@@ -84,8 +85,8 @@ fn of_pairs(start: Start, input: Input, pairs: &[(u8, u8)]) -> Vec<Sequence> {
 
 pub const HOW_NAMES_ARE_MADE: &str =
     "R (from reset) or H (after homing), then N (normal), V (overload) or I (I-input), \
-     x and y of one of the nine pairs, _, M (mu), A (A), C (mu to A) or X (A to mu), no C or X with I, as RN52_M; \
-     or HELD22_M, HELD33_M, HELD44_M";
+     then x and y of one of the nine pairs, then _, then M (mu), A (A), C (mu to A) or X (A to \
+     mu), as RN52_M, but no C or X after I; or else HELD22_M, HELD33_M or HELD44_M";
 
 impl Sequence {
     pub fn name(&self) -> String {

@@ -1,5 +1,6 @@
-//! The three PCM inputs as levels: for normal operation (004, section 6.1), for overload (6.2) and for
-//! homing (6.4.1). 004 gives frequencies and lengths; levels, phases and all of the homing sequence are ours.
+//! The three PCM inputs as levels: for normal operation (004, section 6.1), for overload (6.2) and
+//! for homing (6.4.1). 004 gives frequencies and lengths; levels, phases and all of the homing
+//! sequence are ours.
 
 use crate::modem;
 use crate::signals::{chord, constant, noise, tone, tone_from_peak};
@@ -47,8 +48,8 @@ pub fn overload() -> Vec<i32> {
     .concat()
 }
 
-/// Noise, tones that come and go, and silence. It ends within a tone, so that what follows it meets a
-/// predictor far from reset and a tone detector that is on.
+/// Noise, tones that come and go, and silence. It ends within a tone, so that what follows it meets
+/// a predictor far from reset and a tone detector that is on.
 pub fn homing() -> Vec<i32> {
     [
         noise(1, 4_000, 600),

@@ -1,5 +1,5 @@
-//! The simple signals that the PCM inputs are put together from, as levels on the scale of COMPRESS.
-//! Each part counts its samples from 0.
+//! The simple signals that the PCM inputs are put together from, as levels on the scale of
+//! COMPRESS. Each part counts its samples from 0.
 
 use crate::sine::{cosine, sine};
 

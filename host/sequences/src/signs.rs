@@ -21,8 +21,9 @@ fn pattern(sign: impl Fn(u32) -> u32) -> Vec<u8> {
     (0..SUBSEQUENCE).map(|n| sign(n) as u8).collect()
 }
 
-/// A shift register of the given length, kept as a number that begins with 1. The bit that enters at
-/// its low end is the sum of its highest bit, bit `length`, and of bit `other`; it is also the sign.
+/// A shift register of the given length, kept as a number that begins with 1. The bit that enters
+/// at its low end is the sum of its highest bit, bit `length`, and of bit `other`; it is also the
+/// sign.
 fn register(length: u32, other: u32) -> Vec<u8> {
     let mut kept: u32 = 1;
     (0..SUBSEQUENCE)

@@ -1,5 +1,6 @@
 //! Sine and cosine of the steps that a tone takes at 8,000 samples a second. Only sums, products
-//! and quotients are used: these are exact to the last bit on every machine, a library's sine is not.
+//! and quotients are used: these are exact to the last bit on every machine, a library's sine is
+//! not.
 
 use std::f64::consts::TAU;
 

@@ -1,5 +1,5 @@
-//! The comparison with another codec's lines finds the first that differs and passes over what is no line
-//! of a sequence.
+//! The comparison with another codec's lines finds the first that differs and passes over what is
+//! no line of a sequence.
 
 use sequences::compare::{first_difference, Difference};
 

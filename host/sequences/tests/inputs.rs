@@ -1,4 +1,5 @@
-//! The inputs are what they are said to be: the tables of 004 as printed, the signs, the sine, the files.
+//! The inputs are what they are said to be: the tables of 004 as printed, the signs, the sine, the
+//! files.
 
 use sequences::codewords::{held, i_input};
 use sequences::files::{Inputs, Kind};
@@ -109,7 +110,8 @@ fn period(signs: &[u8]) -> Option<usize> {
     (1..signs.len() / 2).find(|&shift| signs[shift..] == signs[..signs.len() - shift])
 }
 
-/// The last subsequence is one period of 2,047 and its first sign again: no eleven signs recur within it.
+/// The last subsequence is one period of 2,047 and its first sign again: no eleven signs recur
+/// within it.
 #[test]
 fn the_signs_repeat_as_they_should() {
     let signs = signs();
@@ -139,7 +141,8 @@ fn the_signs_begin_as_described() {
     assert_eq!(begins, described);
 }
 
-/// A magnitude has its sign's codeword: at width 3 the codewords 0 to 7 stand for +0 to +3 and -3 to -0.
+/// A magnitude has its sign's codeword: at width 3 the codewords 0 to 7 stand for +0 to +3 and -3
+/// to -0.
 #[test]
 fn codewords_of_both_signs() {
     let codewords = i_input(3);

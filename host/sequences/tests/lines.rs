@@ -1,4 +1,5 @@
-//! The lines: their names and order, their form, and what the checksums of related sequences must share.
+//! The lines: their names and order, their form, and what the checksums of related sequences must
+//! share.
 
 use second::state::State;
 use sequences::checksum::{fields, of_numbers};
@@ -93,8 +94,9 @@ fn words_of(name: &str, inputs: &Inputs) -> Vec<String> {
     line.split(' ').map(str::to_string).collect()
 }
 
-/// The decoder's law changes its bytes and nothing else; the width changes no state, the start no I-input.
-/// By the end of an I-input a decoder may have forgotten its start, but the bytes on the way tell of it.
+/// The decoder's law changes its bytes and nothing else; the width changes no state, the start no
+/// I-input. By the end of an I-input a decoder may have forgotten its start, but the bytes on the
+/// way tell of it.
 #[test]
 fn what_related_lines_share() {
     let inputs = Inputs::made();

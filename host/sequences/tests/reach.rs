@@ -1,5 +1,5 @@
-//! What the sequences are for: that between them they drive each core to the ends of its ranges, to tones and
-//! transitions, through every codeword and to bytes that SYNC moves.
+//! What the sequences are for: that between them they drive each core to the ends of its ranges, to
+//! tones and transitions, through every codeword and to bytes that SYNC moves.
 
 use second::state::State;
 use sequences::files::Inputs;

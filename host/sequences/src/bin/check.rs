@@ -9,8 +9,8 @@ use std::process::ExitCode;
 
 /// From the root of the repository.
 const PROVED: &str = "crates/vectors/stdout";
-const DUMP: &str =
-    "cargo run --release --offline --quiet --manifest-path host/Cargo.toml -p sequences --bin dump --";
+const DUMP: &str = "cargo run --release --offline --quiet --manifest-path host/Cargo.toml \
+                    -p sequences --bin dump --";
 
 fn main() -> ExitCode {
     match read_to_string(in_repository(PROVED)) {

@@ -1,4 +1,5 @@
-//! Prints a line for each sample of one sequence, to find the first that another codec has differently.
+//! Prints a line for each sample of one sequence, to find the first that another codec has
+//! differently.
 
 use sequences::files::Inputs;
 use sequences::lines::dump;

@@ -1,4 +1,5 @@
-//! Prints the second codec's line for each sequence. Ends with 1 where an encoder and its decoder parted.
+//! Prints the second codec's line for each sequence. Ends with 1 where an encoder and its decoder
+//! parted.
 
 use sequences::files::Inputs;
 use sequences::lines::{lines, STATES_DIFFER};

@@ -1,0 +1,5 @@
+pub mod Format
+pub mod Planes
+pub mod Read
+pub mod Wrong
+pub mod Shifted

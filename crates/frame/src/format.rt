@@ -1,0 +1,55 @@
+// The header, and what is wrong with a frame by itself (01, "The radio frame" and rows 5, 1, 2 and 6 of its replies).
+ghost use mathlib.Core.Path.{_≡_};
+ghost use Prim.Native.Nat.{_<_};
+ghost use Rattle.frame.specs.Format.{head, badPair, badGroups, badCount};
+ghost use Rattle.frame.specs.Wrong.{wrongWith};
+
+pub fn header(x: u8, y: u8) -> u8
+    requires { ⌜ (x < 8) × (y < 8) ⌝ }
+    ensures { λ r. ⌜ r ≡ head x y ⌝ }
+{
+    64 + x * 8 + y
+}
+
+pub fn bad_pair(x: u8, y: u8) -> bool
+    ensures { λ r. ⌜ r ≡ badPair x y ⌝ }
+{
+    (y < 2) | (4 < y) | (x < y) | (5 < x)
+}
+
+pub fn bad_groups(g: u8) -> bool
+    ensures { λ r. ⌜ r ≡ badGroups g ⌝ }
+{
+    (g < 1) | (40 < g)
+}
+
+pub fn bad_count(n: usize) -> bool
+    ensures { λ r. ⌜ r ≡ badCount n ⌝ }
+{
+    (0 < n % 8) | (n < 8) | (320 < n)
+}
+
+// The number of the first row that applies to the frame by itself, 0 where none does.
+pub fn wrong_with(frame: &[u8]) -> u8
+    ensures { λ r. ⌜ r ≡ wrongWith (now (frame .entry)) ⌝ }
+{
+    if frame.len() < 2 {
+        return 5;
+    }
+    let first = frame[0];
+    let g = frame[1];
+    if first >> 6 != 1 {
+        return 5;
+    }
+    let x = (first >> 3) % 8;
+    if bad_pair(x, first % 8) {
+        return 1;
+    }
+    if bad_groups(g) {
+        return 2;
+    }
+    if frame.len() != 2 + (x as usize) * (g as usize) {
+        return 6;
+    }
+    0
+}
