@@ -15,13 +15,61 @@ fn shift_in(there: u8, b: u8, c: u8) -> u8
     (there << 1) | ((c >> b) & 1)
 }
 
-// Bit b of eight codewords from `at` on, the first in the most significant place
+// Bit b of the eight codewords from `at` on, the first in the most significant place
 fn octet(codewords: &[u8], at: usize, b: u8) -> u8
     requires { ⌜ (at + 8 ≤ length (now codewords)) × (b < 8) ⌝ }
     ensures { λ r. ⌜ r ≡ gather 8 b (drop at (now (codewords .entry))) 0 ⌝ }
 {
-    let first = shift_in(shift_in(0, b, codewords[at]), b, codewords[at + 1]);
-    let second = shift_in(shift_in(first, b, codewords[at + 2]), b, codewords[at + 3]);
-    let third = shift_in(shift_in(second, b, codewords[at + 4]), b, codewords[at + 5]);
-    shift_in(shift_in(third, b, codewords[at + 6]), b, codewords[at + 7])
+    let mut there = 0;
+    let mut i = 0;
+    while i < 8 {
+        there = shift_in(there, b, codewords[at + i]);
+        i += 1;
+    }
+    there
+}
+
+// The plane of bit b, an octet for each eight codewords
+fn write_plane(codewords: &[u8], b: u8, out: &mut [u8])
+    requires { ⌜ (length (now codewords) / 8 ≤ length (now out)) × (b < 8) ⌝ }
+    ensures { λ _. ⌜ now (out .exit) ≡ plane (length (now (codewords .entry)) / 8) b (now (codewords .entry)) ++ drop (length (now (codewords .entry)) / 8) (now (out .entry)) ⌝ }
+{
+    let g = codewords.len() / 8;
+    let mut j = 0;
+    while j < g {
+        out[j] = octet(codewords, j * 8, b);
+        j += 1;
+    }
+}
+
+// The planes of x bits, the sign bits first
+pub fn write_planes(codewords: &[u8], x: u8, out: &mut [u8])
+    requires { ⌜ (x * (length (now codewords) / 8) ≤ length (now out)) × (x ≤ 8) ⌝ }
+    ensures { λ _. ⌜ now (out .exit) ≡ planes (length (now (codewords .entry)) / 8) x (now (codewords .entry)) ++ drop (x * (length (now (codewords .entry)) / 8)) (now (out .entry)) ⌝ }
+{
+    let g = codewords.len() / 8;
+    let mut b = x;
+    let mut at = 0;
+    while 0 < b {
+        b -= 1;
+        write_plane(codewords, b, &mut out[at..]);
+        at += g;
+    }
+}
+
+// The codeword of sample k, from x planes of g octets
+pub fn codeword_at(body: &[u8], x: u8, g: usize, k: usize) -> u8
+    requires { ⌜ (x ≤ 8) × (k / 8 < g) × (x * g ≤ length (now body)) ⌝ }
+    ensures { λ r. ⌜ r ≡ codewordAt x g (now (body .entry)) k ⌝ }
+{
+    let place = (7 - k % 8) as u8;
+    let mut there = 0;
+    let mut left = x;
+    let mut at = k / 8;
+    while 0 < left {
+        there = shift_in(there, place, body[at]);
+        at += g;
+        left -= 1;
+    }
+    there
 }

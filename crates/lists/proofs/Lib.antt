@@ -2,3 +2,4 @@ pub mod Runs
 pub mod Filled
 pub mod Front
 pub mod Tables
+pub mod Rest

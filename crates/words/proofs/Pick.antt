@@ -2,7 +2,8 @@
 -- Assumes nothing.
 use mathlib.Core.Bool.{Bool, true, false}
 use mathlib.Core.Path.{_≡_, refl}
-use Prim.Native.Nat.{ℕ, _≤_}
+use Prim.Native.Nat.{ℕ, _≤_, _<_}
+use native.Mathlib.Omega.{arith}
 use Rattle.words.specs.Notation.{pick}
 
 pub by-pick : {A : Type 0} (P : A → Type 0) (t : Bool) (a b : A) → (t ≡ true → P a) → (t ≡ false → P b) → P (pick t a b)
@@ -16,3 +17,13 @@ cases false p q = q refl
 
 pub pick-le : (t : Bool) {a b n : ℕ} → a ≤ n → b ≤ n → pick t a b ≤ n
 pick-le t {a} {b} {n} p q = by-pick (λ (x : ℕ). x ≤ n) t a b (λ e. p) (λ e. q)
+
+-- a row of refusals that gave no number was passed, and what stands behind it gave none
+pub passed : (t : Bool) (n rest : ℕ) → 0 < n → pick t n rest ≡ 0 → (t ≡ false) × (rest ≡ 0)
+passed true n rest h e = absurd (omega arith)
+passed false n rest h e = (refl, e)
+
+-- the same where the row is passed by what holds
+pub held : (t : Bool) (n rest : ℕ) → 0 < n → pick t rest n ≡ 0 → (t ≡ true) × (rest ≡ 0)
+held true n rest h e = (refl, e)
+held false n rest h e = absurd (omega arith)

@@ -1,0 +1,28 @@
+-- The two octets of the header, stored in front of the planes.
+-- Assumes nothing.
+use mathlib.Core.Path.{_≡_, refl, sym, ap, _∙_}
+use mathlib.Core.List.{List, [], _∷_, _++_}
+use Prim.Native.Nat.{ℕ, suc, _+_, _*_, _≤_}
+use native.Mathlib.Nat.{add-comm, zero-add, suc-add}
+use native.Mathlib.Omega.{arith}
+use lib.ListN.{length, getD, take, drop, set}
+use lib.Seq.{take-length, length-take-le}
+
+pub header-stored : (d : List ℕ) (h g : ℕ) (e : List ℕ) → 2 ≤ length d → set (set (take 2 d ++ e) 0 h) 1 g ≡ h ∷ g ∷ e
+header-stored [] h g e two = absurd (omega arith)
+header-stored (a ∷ []) h g e two = absurd (omega arith)
+header-stored (a ∷ b ∷ d) h g e two = refl
+
+pub two-more : (m : ℕ) → 2 + m ≡ suc (suc m)
+two-more m = omega arith
+
+-- a frame's first octets copied, and its header's first octet stored anew
+pub header-renewed : (frame : List ℕ) (m h : ℕ) (e : List ℕ) → 2 ≤ length frame
+    → set (take (2 + m) frame ++ e) 0 h ≡ (h ∷ getD frame 1 0 ∷ take m (drop 2 frame)) ++ e
+header-renewed [] m h e two = absurd (omega arith)
+header-renewed (a ∷ []) m h e two = absurd (omega arith)
+header-renewed (a ∷ b ∷ frame) m h e two = rw (two-more m)
+
+-- what a copy of the first n octets leaves behind it
+pub copied : (n : ℕ) (f d : List ℕ) {out : List ℕ} → n ≤ length f → out ≡ take (length (take n f)) (take n f) ++ drop (length (take n f)) d → out ≡ take n f ++ drop n d
+copied n f d h e = e ∙ rw (take-length (take n f), length-take-le n f h)
