@@ -1,10 +1,9 @@
 -- The groups of `step::advance`, put together, are the step of Advance.antt: each law takes what a call promised and gives the quantity that
 -- the Recommendation names.
 -- Assumes nothing.
-use mathlib.Core.Path.{_≡_, ap, sym, _∙_}
+use mathlib.Core.Path.{_≡_, ap, _∙_}
 use mathlib.Core.List.{List, [], _∷_}
 use Prim.Native.Nat.{ℕ}
-use lib.ListN.{getD}
 use Rattle.predictor.specs.declared.reconstruct.Sign.{Sign}
 use Rattle.predictor.specs.Reconstruct.{ADDB, ADDC, FLOATA, FLOATB}
 use Rattle.speed.specs.Speed.{TRIGA}
@@ -16,9 +15,9 @@ use Rattle.engine.specs.declared.Estimated.{Estimated}
 use Rattle.engine.specs.declared.adaptation.Scales.{Scales}
 use Rattle.engine.specs.declared.adaptation.Speeds.{Speeds}
 use Rattle.engine.specs.declared.prediction.Poles.{Poles}
-use Rattle.engine.specs.Estimate.{Y, SE, SEZ, estimateOf}
+use Rattle.engine.specs.Estimate.{Y, SEZ, estimateOf}
 use Rattle.engine.specs.Difference.{difference}
-use Rattle.engine.specs.Advance.{DQ, TR, SR, PK0, SIGPK, A2P, A1P, BnP, TDP, DMSP, DMLP, APP, YUP, YLP, advanceOf}
+use Rattle.engine.specs.Advance.{DQ, TR, SR, PK0, SIGPK, A2P, A1P, BnP, TDP, DMSP, DMLP, APP, YUP, YLP}
 use Rattle.engine.specs.Groups.{polesOf, zeroOf, zerosOf, speedsOf, scalesOf}
 use Rattle.engine.proofs.Estimates.{y-is, se-is, sez-is}
 
@@ -46,9 +45,9 @@ module _ (s : State) (Ic : ℕ) {e : Estimated} (is : e ≡ estimateOf s) where
     pub dq0-is : {r : ℕ} → r ≡ FLOATA 14 dq → r ≡ FLOATA 14 (DQ s Ic)
     dq0-is p = p ∙ ap (FLOATA 14) d
 
-    pub sr0-is : {sr r : ℕ} → sr ≡ ADDB 14 dq (e .se) → r ≡ FLOATB sr → r ≡ FLOATB (SR s Ic)
+    pub sr0-is : {r : ℕ} → r ≡ FLOATB (ADDB 14 dq (e .se)) → r ≡ FLOATB (SR s Ic)
     unfolding SR
-    sr0-is p q = q ∙ ap FLOATB (p ∙ rw (d, se-is s is))
+    sr0-is p = p ∙ rw (d, se-is s is)
 
     pub zeros-are : {tr : ℕ} {r : List ℕ} → tr ≡ TR s Ic → r ≡ zerosOf tr dq (s .b) (s .dq)
         → r ≡ TRIGB (TR s Ic) (BnP s Ic 0) ∷ TRIGB (TR s Ic) (BnP s Ic 1) ∷ TRIGB (TR s Ic) (BnP s Ic 2) ∷ TRIGB (TR s Ic) (BnP s Ic 3) ∷ TRIGB (TR s Ic) (BnP s Ic 4) ∷ TRIGB (TR s Ic) (BnP s Ic 5) ∷ []

@@ -2,13 +2,12 @@
 -- Assumes nothing.
 use mathlib.Core.Path.{_≡_}
 use Prim.Native.Nat.{ℕ, _+_, _*_, _%_, _≤_, _<_}
-use native.Mathlib.Omega.{arith}
 use Rattle.words.specs.Within.{Within}
 use Rattle.logarithm.specs.Logarithm.{ADDA}
 use Rattle.logarithm.proofs.Range.{scaled-word, scaled-range, antilog-range}
 use Rattle.quantizer.specs.Codeword.{Codeword}
 use Rattle.quantizer.specs.Output.{RECONST}
-use Rattle.quantizer.proofs.Ranges.{Near, reconst-near, reconst-signed}
+use Rattle.quantizer.proofs.Ranges.{reconst-near}
 use Rattle.engine.specs.Difference.{difference}
 
 module _ {width I Y : ℕ} (code : Codeword width I) (y : Within 544 5120 Y) where

@@ -1,7 +1,7 @@
 -- From a state in range, Y is in range and the estimates are 15-bit words.
 -- Assumes nothing.
 use mathlib.Core.Path.{_≡_, ap}
-use Prim.Native.Nat.{ℕ, _<_}
+use Prim.Native.Nat.{_<_}
 use Rattle.words.specs.Within.{Within}
 use Rattle.speed.specs.Speed.{LIMA}
 use Rattle.speed.proofs.Range.{lima-range}
@@ -10,7 +10,7 @@ use Rattle.predictor.proofs.Range.{se-range, sez-range}
 use Rattle.state.specs.declared.State.{State}
 use Rattle.state.specs.InRange.{InRange}
 use Rattle.engine.specs.declared.Estimated.{Estimated}
-use Rattle.engine.specs.Estimate.{Y, WB, predicted, SE, SEZ, estimateOf}
+use Rattle.engine.specs.Estimate.{Y, predicted, SE, SEZ, estimateOf}
 
 module _ (s : State) where
   pub y-range : InRange s → Within 544 5120 (Y s)

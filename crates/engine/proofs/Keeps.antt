@@ -5,21 +5,17 @@ use Prim.Native.Nat.{ℕ, _≤_, _<_}
 use native.Mathlib.Omega.{arith}
 use Rattle.words.specs.Within.{Within}
 use Rattle.predictor.specs.Float.{FloatWord}
-use Rattle.predictor.specs.Reconstruct.{ADDB, ADDC, FLOATA}
+use Rattle.predictor.specs.Reconstruct.{FLOATA}
 use Rattle.predictor.proofs.Range.{addb-range, pk0-range, floata-range, floatb-range, tone-range, trigb-range}
-use Rattle.scale.specs.Scale.{FILTD}
 use Rattle.scale.proofs.Range.{filtd-word, limb-range, filte-range}
-use Rattle.speed.specs.Speed.{SUBTC}
 use Rattle.speed.proofs.Range.{filta-range, filtb-range, filtc-range, subtc-range, triga-range}
 use Rattle.quantizer.specs.Codeword.{CoreCodeword}
-use Rattle.quantizer.specs.Multiplier.{FUNCTW, FUNCTF}
-use Rattle.quantizer.specs.Output.{RECONST}
+use Rattle.quantizer.specs.Multiplier.{FUNCTW}
 use Rattle.quantizer.proofs.Halves.{codeword-of-core}
 use Rattle.quantizer.proofs.Ranges.{functf-small, reconst-signed}
 use Rattle.state.specs.declared.State.{State}
-use Rattle.state.specs.InRange.{InRange, FloatWords}
+use Rattle.state.specs.InRange.{InRange}
 use Rattle.engine.specs.Estimate.{Y, SE, SEZ}
-use Rattle.engine.specs.Difference.{difference}
 use Rattle.engine.specs.Advance.{DQ, TR, SR, PK0, A2P, TDP, DMSP, DMLP, APP, YUP, YLP, advanceOf}
 use Rattle.engine.proofs.Estimates.{y-range}
 use Rattle.engine.proofs.Differences.{difference-range}

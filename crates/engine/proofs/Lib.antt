@@ -2,3 +2,4 @@ pub mod Estimates
 pub mod Differences
 pub mod Assembly
 pub mod Keeps
+pub mod Words

@@ -1,6 +1,6 @@
 // The scale factor and the speed at which it adapts (Figures 8 and 9 of G.727).
 ghost use mathlib.Core.Path.{_≡_};
-ghost use Prim.Native.Nat.{_≤_, _<_};
+ghost use Prim.Native.Nat.{_≤_};
 ghost use Rattle.state.specs.InRange.{InRange};
 ghost use Rattle.engine.specs.Estimate.{Y};
 ghost use Rattle.engine.specs.Groups.{scalesOf, speedsOf};

@@ -1,5 +1,7 @@
 // The adaptive predictor (Figures 10 and 12 of G.727): the signal estimate, and the next values of the coefficients.
 ghost use mathlib.Core.Path.{_≡_};
+ghost use Prim.Native.Nat.{_<_};
+ghost use Rattle.predictor.specs.Reconstruct.{ADDB, FLOATB};
 ghost use Rattle.engine.specs.Estimate.{predicted};
 ghost use Rattle.engine.specs.Groups.{polesOf, zeroOf, zerosOf};
 use predictor::coefficient::limc;
@@ -11,6 +13,8 @@ use predictor::coefficient::upb;
 use predictor::estimate::Estimate;
 use predictor::estimate::accum;
 use predictor::estimate::fmult;
+use predictor::reconstruct::addb;
+use predictor::reconstruct::floatb;
 use predictor::reconstruct::xor;
 use predictor::tone::tone;
 use state::State;
@@ -36,6 +40,14 @@ pub fn signal_estimate(s: State) -> Estimate
         fmult(b[4], dq[4]),
         fmult(b[5], dq[5]),
     )
+}
+
+// The reconstructed signal, as the float word that the second order predictor delays
+pub fn next_signal(dq: u16, se: u16) -> u16
+    requires { ⌜ se < 32768 ⌝ }
+    ensures { λ r. ⌜ r ≡ FLOATB (ADDB 14 dq se) ⌝ }
+{
+    floatb(addb(dq, se))
 }
 
 // The second order predictor and the tone that it shows. A2 is limited first, since it limits A1.

@@ -11,13 +11,12 @@ use crate::adaptation::next_speeds;
 use crate::adaptation::scale_factor;
 use crate::difference::quantized_difference;
 use crate::prediction::next_poles;
+use crate::prediction::next_signal;
 use crate::prediction::next_zeros;
 use crate::prediction::signal_estimate;
 use predictor::coefficient::trigb;
-use predictor::reconstruct::addb;
 use predictor::reconstruct::addc;
 use predictor::reconstruct::floata;
-use predictor::reconstruct::floatb;
 use predictor::tone::trans;
 use quantizer::multiplier::functf;
 use quantizer::multiplier::functw;
@@ -58,7 +57,7 @@ pub fn advance(s: State, e: Estimated, ic: u8) -> State
         a2: poles.a2,
         b: zeros,
         dq: [floata(dq), past[0], past[1], past[2], past[3], past[4]],
-        sr1: floatb(addb(dq, e.se)),
+        sr1: next_signal(dq, e.se),
         sr2: s.sr1,
         pk1: sign.pk0,
         pk2: s.pk1,

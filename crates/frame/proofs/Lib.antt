@@ -5,3 +5,11 @@ pub mod Laying
 pub mod Headers
 pub mod Sounds
 pub mod Codewords
+pub mod Fields
+pub mod Bits
+pub mod Parts
+pub mod Return
+pub mod Thinning
+pub mod Kept
+pub mod Received
+pub mod Examples

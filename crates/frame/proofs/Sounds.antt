@@ -16,11 +16,11 @@ use Rattle.frame.specs.Read.{frameWidth, frameCore, frameGroups}
 use Rattle.frame.specs.Wrong.{wrongWith}
 use Rattle.frame.specs.Sound.{Sound}
 
-neither-left : (a b : Bool) → a || b ≡ false → a ≡ false
+pub neither-left : (a b : Bool) → a || b ≡ false → a ≡ false
 neither-left true b e = e
 neither-left false b e = refl
 
-neither-right : (a b : Bool) → a || b ≡ false → b ≡ false
+pub neither-right : (a b : Bool) → a || b ≡ false → b ≡ false
 neither-right true true e = e
 neither-right true false e = refl
 neither-right false b e = e

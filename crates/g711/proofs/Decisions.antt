@@ -12,9 +12,9 @@ use lib.ListN.{length, getD}
 use borrow.Author.Tests.{le-leb, lt-leb}
 use Rattle.words.specs.Notation.{pick}
 use Rattle.words.specs.Length.{bitLength, rows}
+use Rattle.words.proofs.Tests.{and-left, and-right}
 use Rattle.g711.specs.G711.{decisions-mu, decisions-A}
 use Rattle.g711.specs.Compress.{reached, levelOf}
-use Rattle.g711.proofs.Computed.{left, right}
 use Rattle.g711.proofs.Segments.{formula, formula-mono, formula-top}
 
 -- f goes from n to n + 1 just at x
@@ -29,12 +29,12 @@ rises f n (x ∷ xs) = rise f n x && rises f (suc n) xs
 module _ (f : ℕ → ℕ) (mono : (m k : ℕ) → m ≤ k → f m ≤ f k) where
   module _ (n x m : ℕ) (t : T (rise f n x)) where
     over : x ≤ m → n < f m
-    over h = omega (arith, mono x m h, eqb→eq (f x) (suc n) (right (eqb (f (x - 1)) n) _ t))
+    over h = omega (arith, mono x m h, eqb→eq (f x) (suc n) (and-right (eqb (f (x - 1)) n) _ t))
 
     under : m < x → f m ≤ n
     under h =
         let a : f m ≤ f (x - 1) = mono m (x - 1) (omega arith) in
-        omega (arith, eqb→eq (f (x - 1)) n (left (eqb (f (x - 1)) n) _ t))
+        omega (arith, eqb→eq (f (x - 1)) n (and-left (eqb (f (x - 1)) n) _ t))
 
     counted : (xs : List ℕ) → reached xs m ≡ f m - suc n → Dec (x ≤ m) → reached (x ∷ xs) m ≡ f m - n
     unfolding reached
@@ -48,14 +48,14 @@ module _ (f : ℕ → ℕ) (mono : (m k : ℕ) → m ≤ k → f m ≤ f k) wher
   unfolding reached
   count [] n t m h = omega arith
   count (x ∷ xs) n t m h =
-      counted n x m (left (rise f n x) _ t) xs (count xs (suc n) (right (rise f n x) _ t) m (omega arith)) (decLe x m)
+      counted n x m (and-left (rise f n x) _ t) xs (count xs (suc n) (and-right (rise f n x) _ t) m (omega arith)) (decLe x m)
 
   place : (xs : List ℕ) (n : ℕ) → T (rises f n xs) → (i : ℕ) → i < length xs → T (rise f (n + i) (getD xs i 0))
   place [] n t i h = absurd (not-suc-le-zero h)
-  place (x ∷ xs) n t zero h = rw (add-zero n) (left (rise f n x) _ t)
+  place (x ∷ xs) n t zero h = rw (add-zero n) (and-left (rise f n x) _ t)
   place (x ∷ xs) n t (suc i) h =
       let e : n + suc i ≡ suc n + i = omega arith in
-      rw e (place xs (suc n) (right (rise f n x) _ t) i (le-of-suc-le-suc h))
+      rw e (place xs (suc n) (and-right (rise f n x) _ t) i (le-of-suc-le-suc h))
 
   -- the values behind 0, which every m has reached
   module _ (xs : List ℕ) (t : T (rises f 0 xs)) (m : ℕ) (top : f m ≤ length xs) where

@@ -6,19 +6,20 @@ use Prim.Native.Nat.{ℕ, _+_, _-_, _*_, _/_, _%_, _^_, _≤_, _<_}
 use lib.Dec.{eqb, leb, ltb, leb→le, eqb·suc-zero}
 use lib.ListN.{getD}
 use Rattle.words.specs.Notation.{pick, _**_}
+use Rattle.words.proofs.Tests.{below-at}
 use Rattle.g711.specs.G711.{outputs-mu, outputs-A}
 use Rattle.g711.specs.Expand.{SS-mu, SS-A, EXPAND}
-use Rattle.g711.proofs.Computed.{passes, agree, bounded}
+use Rattle.g711.proofs.Computed.{agree, bounded}
 
 -- both ends of the n-th interval of `chordOf`, added
 abbrev pub middleOf : ℕ → ℕ
 middleOf n = (n % 16 * 2 + 33) * 2 ^ (n / 16)
 
 pub middle-low : (n : ℕ) → n < 128 → 33 ≤ middleOf n
-middle-low n h = leb→le 33 (middleOf n) (passes (λ i. leb 33 (middleOf i)) 128 n tt h)
+middle-low n h = leb→le 33 (middleOf n) (below-at (λ i. leb 33 (middleOf i)) 128 n tt h)
 
 pub middle-high : (n : ℕ) → n < 128 → middleOf n ≤ 8064
-middle-high n h = leb→le (middleOf n) 8064 (passes (λ i. leb (middleOf i) 8064) 128 n tt h)
+middle-high n h = leb→le (middleOf n) 8064 (below-at (λ i. leb (middleOf i) 8064) 128 n tt h)
 
 abbrev pub outputs : ℕ → List ℕ
 outputs LAW = pick (eqb LAW 0) outputs-mu outputs-A

@@ -3,3 +3,4 @@ pub mod Filled
 pub mod Front
 pub mod Tables
 pub mod Rest
+pub mod Running

@@ -25,7 +25,8 @@ unfoldable pub ADDA : ℕ → ℕ → ℕ
 ADDA DQLN Y = (DQLN + (Y >> 2)) % 4096
 
 -- "Convert quantized difference signal from the logarithmic to the linear domain": DQ, a sign at place s and a magnitude below it.
--- s is 14 in G.727; in G.726, whose DQ is a bit wider, it is 15. DEX is at most 14 where DS = 0 (proofs/Range.antt)
+-- s is 14 in G.727; in G.726, whose DQ is a bit wider, it is 15. On both paths of G.727 DQL is from -128 to 1,736, so that DEX is 13 at most
+-- where DS = 0 (proofs/Range.antt)
 unfoldable pub ANTILOG : ℕ → ℕ → ℕ → ℕ
 ANTILOG s DQL DQS =
     let DS = DQL >> 11 in

@@ -1,38 +1,36 @@
--- Bounds that the detectors and limits keep: f(a1) of UPA2 is held at one half, so it and its negative are 17-bit words; a threshold of
--- TRANS has 21 bits.
+-- Bounds that the code computes within: f(a1) of UPA2, four times a1, is a 17-bit word and so is its negative; a threshold of TRANS has
+-- 21 bits.
 -- Assumes nothing.
 use mathlib.Core.Path.{_≡_}
-use Prim.Native.Nat.{ℕ, _+_, _-_, _^_, _*_, _/_, _%_, _≤_, _<_}
+use Prim.Native.Nat.{ℕ, _+_, _-_, _^_, _*_, _/_, _%_, _≤_, _<_, max}
 use native.Mathlib.Omega.{arith}
 use lib.Dec.{eqb, leb}
 use lib.Pow.{shl-exact, shl-lt, pow-mono}
-use borrow.Author.Tests.{leb-true}
+use borrow.Author.Tests.{eqb-true}
 use Rattle.words.specs.Notation.{pick}
-use Rattle.words.proofs.Pick.{by-pick}
+use Rattle.words.proofs.Pick.{by-pick, pick-le, pick-lt}
 use Rattle.predictor.specs.Coefficient.{FA}
 
 module _ (A1 : ℕ) where
-  abbrev pub above : ℕ
+  abbrev above : ℕ
   above = pick (leb A1 8191) (A1 * 4) 32764
 
-  abbrev pub below : ℕ
+  abbrev below : ℕ
   below = pick (leb 57345 A1) (A1 * 4 % 131072) 98308
 
-  abbrev pub FA1 : ℕ
-  FA1 = pick (eqb (A1 / 32768) 0) above below
+  abbrev fa1 : ℕ → ℕ → ℕ
+  fa1 a b = pick (eqb (A1 / 32768) 0) a b
 
-  pub above-held : above ≤ 32764
-  above-held = by-pick (λ (n : ℕ). n ≤ 32764) (leb A1 8191) (A1 * 4) 32764 (λ e. omega (arith, leb-true A1 8191 e)) (λ e. omega arith)
-
-  pub below-word : below < 131072
-  below-word = by-pick (λ (n : ℕ). n < 131072) (leb 57345 A1) (A1 * 4 % 131072) 98308 (λ e. omega arith) (λ e. omega arith)
-
-  pub fa1-word : FA1 < 131072
-  fa1-word = by-pick (λ (n : ℕ). n < 131072) (eqb (A1 / 32768) 0) above below (λ e. omega (arith, above-held)) (λ e. below-word)
+  -- whichever rows are chosen: a coefficient that is not negative is below 32,768, and four times that is below 131,072
+  pub fa1-word : {a b : ℕ} → a ≤ max (A1 * 4) 32764 → b ≤ max (A1 * 4 % 131072) 98308 → fa1 a b < 131072
+  fa1-word {a} {b} high low = by-pick (λ (n : ℕ). n < 131072) (eqb (A1 / 32768) 0) a b (λ e. omega (arith, eqb-true (A1 / 32768) 0 e)) (λ e. omega arith)
 
   pub fa-word : (PKS1 : ℕ) → FA PKS1 A1 < 131072
   unfolding FA
-  fa-word PKS1 = by-pick (λ (n : ℕ). n < 131072) (eqb PKS1 0) ((131072 - FA1) % 131072) FA1 (λ e. omega arith) (λ e. fa1-word)
+  fa-word PKS1 =
+      let high : above ≤ max (A1 * 4) 32764 = pick-le (leb A1 8191) (omega arith) (omega arith) in
+      let low : below ≤ max (A1 * 4 % 131072) 98308 = pick-le (leb 57345 A1) (omega arith) (omega arith) in
+      pick-lt (eqb PKS1 0) {a = (131072 - fa1 above below) % 131072} (omega arith) (fa1-word high low)
 
 -- THR1 of TRANS, shifted left in 32 bits, loses nothing
 module _ (YLFRAC YLINT : ℕ) (frac : YLFRAC < 32) (int : YLINT ≤ 15) where

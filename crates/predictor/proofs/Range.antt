@@ -1,30 +1,21 @@
 -- What each sub-block of the predictor gives is a word of the width that Table 7/G.727 says, and a float word as 01's table has it.
 -- Assumes nothing.
-use mathlib.Core.Bool.{Bool, _&&_}
+use mathlib.Core.Bool.{_&&_}
 use mathlib.Core.Path.{_≡_}
 use Prim.Native.Nat.{ℕ, _+_, _-_, _*_, _/_, _%_, _^_, _≤_, _<_}
 use native.Mathlib.Omega.{arith}
 use lib.Dec.{eqb, leb, ltb}
-use lib.Bits.{xor-lt}
 use borrow.Author.Tests.{eqb-true}
 use Rattle.words.specs.Notation.{pick}
 use Rattle.words.proofs.Length.{length-le}
-use Rattle.words.proofs.Pick.{by-pick}
+use Rattle.words.proofs.Pick.{by-pick, pick-lt, bit}
 use Rattle.words.specs.Within.{Within}
 use Rattle.predictor.specs.Float.{EXP, MANT, FloatWord}
 use Rattle.predictor.specs.Estimate.{ACCUM}
-use Rattle.predictor.specs.Reconstruct.{DQI, SEI, ADDB, ADDC, FLOATA, FLOATB, XOR}
+use Rattle.predictor.specs.Reconstruct.{DQI, SEI, ADDB, ADDC, FLOATA, FLOATB}
 use Rattle.predictor.specs.Coefficient.{LIMC, LIMD, TRIGB, UPA1, UPA2, UPB}
 use Rattle.predictor.specs.Tone.{TONE, TRANS}
 use Rattle.predictor.proofs.Mantissa.{mantissa-range}
-
--- a brace whose rows are 1 and 0 is a bit
-bit : (t : Bool) → pick t 1 0 < 2
-bit t = by-pick (λ (n : ℕ). n < 2) t 1 0 (λ e. omega arith) (λ e. omega arith)
-
--- a brace whose rows are words is a word
-word : (t : Bool) (a b : ℕ) → a < 65536 → b < 65536 → pick t a b < 65536
-word t a b p q = by-pick (λ (n : ℕ). n < 65536) t a b (λ e. p) (λ e. q)
 
 pub se-range : (WA1 WA2 WB1 WB2 WB3 WB4 WB5 WB6 : ℕ) → ACCUM WA1 WA2 WB1 WB2 WB3 WB4 WB5 WB6 .se < 32768
 unfolding ACCUM
@@ -80,7 +71,7 @@ trans-range TD YL DQ =
 
 pub trigb-range : (TR AnP n : ℕ) → AnP < n → TRIGB TR AnP < n
 unfolding TRIGB
-trigb-range TR AnP n h = by-pick (λ (x : ℕ). x < n) (eqb TR 0) AnP 0 (λ e. h) (λ e. omega arith)
+trigb-range TR AnP n h = pick-lt (eqb TR 0) h (omega arith)
 
 pub upa1-range : (PK0 PK1 A1 SIGPK : ℕ) → UPA1 PK0 PK1 A1 SIGPK < 65536
 unfolding UPA1
@@ -98,7 +89,7 @@ pub limc-range : (A2T : ℕ) → A2T < 65536 → LIMC A2T < 65536
 unfolding LIMC
 limc-range A2T h =
     let upper = leb 12288 A2T && leb A2T 32767 in
-    word (leb 32768 A2T && leb A2T 53248) 53248 (pick upper 12288 A2T) (omega arith) (word upper 12288 A2T (omega arith) h)
+    pick-lt (leb 32768 A2T && leb A2T 53248) {a = 53248} (omega arith) (pick-lt upper {a = 12288} (omega arith) h)
 
 pub limd-range : (A1T A2P : ℕ) → A1T < 65536 → LIMD A1T A2P < 65536
 unfolding LIMD
@@ -106,4 +97,4 @@ limd-range A1T A2P h =
     let A1UL = (15360 + 65536 - A2P) % 65536 in
     let A1LL = (A2P + 65536 - 15360) % 65536 in
     let upper = leb A1UL A1T && leb A1T 32767 in
-    word (leb 32768 A1T && leb A1T A1LL) A1LL (pick upper A1UL A1T) (omega arith) (word upper A1UL A1T (omega arith) h)
+    pick-lt (leb 32768 A1T && leb A1T A1LL) {a = A1LL} (omega arith) (pick-lt upper {a = A1UL} (omega arith) h)

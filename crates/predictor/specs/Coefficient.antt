@@ -39,7 +39,7 @@ UPA1 PK0 PK1 A1 SIGPK =
     let UA1 = (UGA1 + ULA1) % 65536 in
     (A1 + UA1) % 65536
 
--- FA of UPA2: f(a1), held at +1/2 and -1/2, with its sign attached
+-- FA of UPA2: f(a1) = 4 a1, where a1 is held at +1/2 and -1/2, with the sign of PKS1 attached
 unfoldable pub FA : ℕ → ℕ → ℕ
 FA PKS1 A1 =
     let A1S = A1 >> 15 in

@@ -50,7 +50,7 @@ pub fn upa1(pk0: u16, pk1: u16, a1: u16, sigpk: u16) -> u16
     plus(a1, plus(uga1, ul(a1)))
 }
 
-// f(a1), held at plus and minus one half, with the sign of PKS1 attached
+// f(a1) = 4 a1, where a1 is held at plus and minus one half, with the sign of PKS1 attached
 fn fa(pks1: u16, a1: u16) -> u32
     ensures { λ r. ⌜ r ≡ FA pks1 a1 ⌝ }
 {

@@ -1,6 +1,6 @@
 -- Every difference that a codeword allows is allowed by its thinned form, at one scale factor, over the widths.
 -- Assumes nothing.
-use mathlib.Core.Path.{_≡_, ap, _∙_}
+use mathlib.Core.Path.{ap, _∙_}
 use Prim.Native.Nat.{ℕ, _-_, _≤_}
 use Rattle.words.specs.Notation.{_>>_}
 use Rattle.logarithm.specs.Logarithm.{LOG}

@@ -9,11 +9,12 @@ use native.Mathlib.Omega.{arith}
 use native.Mathlib.Decide.{decLe}
 use lib.Dec.{T, leb, T-not, leb→le}
 use borrow.Author.Tests.{le-leb, lt-leb}
+use Rattle.words.proofs.Tests.{and-left, and-right}
 use Rattle.quantizer.specs.Codeword.{Width}
 use Rattle.quantizer.specs.Table.{Range, row, find}
 use Rattle.quantizer.specs.Decision.{table8, table9, table10, table11, decisions, QUAN}
 use Rattle.quantizer.specs.Sync.{table17, table18, table19, table20, places, ID}
-use Rattle.quantizer.proofs.Tests.{and-left, and-right, or-cases, test-cases, all, has, all-at, at-width}
+use Rattle.quantizer.proofs.Tests.{or-cases, test-cases, all, has, all-at, at-width}
 
 unfoldable pub leasts : List Range → List ℕ
 leasts [] = []

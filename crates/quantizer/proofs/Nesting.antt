@@ -9,6 +9,7 @@ use lib.Pow.{shr-shr}
 use borrow.Author.Tests.{ne-eqb}
 use lib.Dec.{T, eqb, leb, ltb, eqb→eq, ltb→lt}
 use Rattle.words.specs.Notation.{_>>_}
+use Rattle.words.proofs.Tests.{span, below-at}
 use Rattle.quantizer.specs.Codeword.{Width, Codeword}
 use Rattle.quantizer.specs.Table.{find}
 use Rattle.quantizer.specs.Decision.{QUAN, decisions, table8, table9, table10, table11}
@@ -16,7 +17,7 @@ use Rattle.quantizer.specs.Sync.{IM, ID, places, table17, table18, table
 use Rattle.quantizer.specs.Threshold.{reached, coded}
 use Rattle.quantizer.proofs.Columns.{tabulate, begins, levels}
 use Rattle.quantizer.proofs.Thresholds.{is-level, coded-steady}
-use Rattle.quantizer.proofs.Tests.{all, span, below-at, widths, at-width, width}
+use Rattle.quantizer.proofs.Tests.{all, widths, at-width, width}
 use Rattle.quantizer.proofs.Bounds.{bounds, leasts, at-bounds, quan-steady, id-steady}
 
 -- what is looked at of a value of DLN: the codeword, the 5-bit codeword, ID, and what the thresholds give

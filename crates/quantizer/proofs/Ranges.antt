@@ -8,12 +8,13 @@ use Prim.Native.Nat.{ℕ, _+_, _-_, _%_, _≤_, _<_}
 use lib.Dec.{T, eqb, leb, ltb, eqb→eq, leb→le, ltb→lt}
 use lib.ListN.{getD}
 use Rattle.words.specs.Notation.{_>>_}
+use Rattle.words.proofs.Tests.{and-left, and-right}
 use Rattle.quantizer.specs.Codeword.{Width, Codeword, CoreCodeword}
 use Rattle.quantizer.specs.Table.{Level, level, output}
 use Rattle.quantizer.specs.Output.{outputs, table12, table13, table14, table15, RECONST}
 use Rattle.quantizer.specs.Multiplier.{IM-core, multipliers, speeds, FUNCTW, FUNCTF}
 use Rattle.quantizer.proofs.Columns.{tabulate, column}
-use Rattle.quantizer.proofs.Tests.{and-left, and-right, at-width, at-codeword, at-core}
+use Rattle.quantizer.proofs.Tests.{at-width, at-codeword, at-core}
 
 -- x is a 12-bit word from -below to span - below
 pub record Near (below span x : ℕ) : Type 0 where

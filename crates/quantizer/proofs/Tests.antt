@@ -1,21 +1,13 @@
--- Tests that antt computes, over the numbers of a list, the numbers from one to another, the widths and their codewords;
+-- Tests that antt computes, over the numbers of a list, the widths and their codewords (words/proofs/Tests.antt has those over a span);
 -- each with the law that turns it into a fact. Assumes nothing.
-use mathlib.Core.Path.{_≡_, sym, subst}
+use mathlib.Core.Path.{sym, subst}
 use mathlib.Core.Bool.{Bool, true, false, not, _&&_, _||_}
 use mathlib.Core.List.{List, [], _∷_}
-use Prim.Native.Nat.{ℕ, zero, suc, _+_, _^_, _≤_, _<_, zero-le}
+use Prim.Native.Nat.{ℕ, _+_, _^_, _≤_, _<_}
 use native.Mathlib.Omega.{arith}
-use native.Mathlib.Decide.{decLe}
 use lib.Dec.{T, eqb, leb, eqb→eq, leb→le}
+use Rattle.words.proofs.Tests.{and-left, and-right, span, span-at, below-at}
 use Rattle.quantizer.specs.Codeword.{Width, Codeword, CoreCodeword}
-
-pub and-left : (a b : Bool) → T (a && b) → T a
-and-left true b t = tt
-and-left false b t = t
-
-pub and-right : (a b : Bool) → T (a && b) → T b
-and-right true b t = t
-and-right false b t = absurd t
 
 pub or-cases : {A : Type 0} (a b : Bool) → (T a → A) → (T b → A) → T (a || b) → A
 or-cases true b f g t = f tt
@@ -39,28 +31,6 @@ all-at p k (x ∷ xs) t e =
     or-cases (eqb k x) (has k xs) (λ u. subst (λ (m : ℕ). T (p m)) (sym (eqb→eq k x u)) (and-left (p x) (all p xs) t))
     (λ u. all-at p k xs (and-right (p x) (all p xs) t) u)
     e
-
--- p at `low` and the numbers above it, n in all
-abbrev pub span : ℕ → ℕ → (ℕ → Bool) → Bool
-span low zero p = true
-span low (suc n) p = p low && span (suc low) n p
-
-module _ (p : ℕ → Bool) where
-  first-or-later : {low k : ℕ} → low ≤ k → T (p low) → (suc low ≤ k → T (p k)) → Dec (suc low ≤ k) → T (p k)
-  first-or-later h first later (yes d) = later d
-  first-or-later {low} {k} h first later (no d) =
-      let same : low ≡ k = omega arith in
-      subst (λ (m : ℕ). T (p m)) same first
-
-  pub span-at : (n low k : ℕ) → T (span low n p) → low ≤ k → k < low + n → T (p k)
-  span-at zero low k t h l = absurd (omega arith)
-  span-at (suc n) low k t h l =
-      first-or-later h (and-left (p low) (span (suc low) n p) t)
-      (λ d. span-at n (suc low) k (and-right (p low) (span (suc low) n p) t) d (omega arith))
-      (decLe (suc low) k)
-
-  pub below-at : (n k : ℕ) → T (span 0 n p) → k < n → T (p k)
-  below-at n k t l = span-at n 0 k t zero-le (omega arith)
 
 -- p of each width
 abbrev pub widths : (ℕ → Bool) → Bool

@@ -13,9 +13,10 @@ use borrow.Author.Tests.{le-leb, lt-leb}
 use lib.Dec.{T, leb, ltb, ltb→lt}
 use Rattle.words.specs.Notation.{pick}
 use Rattle.words.proofs.Pick.{pick-le}
+use Rattle.words.proofs.Tests.{and-left, and-right}
 use Rattle.quantizer.specs.Decision.{table11}
 use Rattle.quantizer.specs.Threshold.{offset, reached, coded}
-use Rattle.quantizer.proofs.Tests.{and-left, and-right, has, all}
+use Rattle.quantizer.proofs.Tests.{has, all}
 use Rattle.quantizer.proofs.Bounds.{bounds, leasts, Free, apart, same-test}
 
 -- a word at which a row begins

@@ -9,7 +9,7 @@ use Rattle.words.specs.Notation.{pick}
 pub data Range : Type 0 where
   row : ℕ → ℕ → ℕ → ℕ → Range
 
--- what the row that holds DS and DLN gives; a table has one for each sign and each of the 4,096 values, so the last line is never met
+-- what the row that holds DS and DLN gives; a table has one for each sign and each of the 4,096 values, so the first clause is never met
 unfoldable pub find : List Range → ℕ → ℕ → ℕ
 find [] DS DLN = 0
 find (row ds least greatest I ∷ rows) DS DLN =

@@ -1,10 +1,9 @@
 -- SYNC by the order of the two codewords, as the code tests it.
 -- Assumes nothing.
-use mathlib.Core.Path.{_≡_, sym}
+use mathlib.Core.Path.{_≡_}
 use Prim.Native.Nat.{ℕ, _≤_, _<_}
 use borrow.Author.Tests.{lt-ltb, le-ltb, eq-eqb, ne-eqb}
 use native.Mathlib.Omega.{arith}
-use lib.Dec.{ltb}
 use Rattle.g711.specs.Neighbour.{above, below}
 use Rattle.quantizer.specs.Sync.{IM, ID}
 use Rattle.sample.specs.Decode.{SYNC}

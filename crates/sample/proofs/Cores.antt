@@ -1,11 +1,11 @@
 -- The core bits of a codeword: a core codeword, the same whatever enhancement bits were dropped before.
 -- Assumes nothing.
-use mathlib.Core.Path.{_≡_, sym, ap, _∙_}
+use mathlib.Core.Path.{_≡_, ap, _∙_}
 use Prim.Native.Nat.{ℕ, _+_, _-_, _/_, _^_, _≤_, _<_}
 use native.Mathlib.Omega.{arith}
 use lib.Pow.{shr-lt, shr-shr}
 use Rattle.words.specs.Notation.{_>>_}
-use Rattle.quantizer.specs.Codeword.{Width, Codeword, CoreCodeword}
+use Rattle.quantizer.specs.Codeword.{Width, CoreCodeword}
 use Rattle.state.specs.declared.State.{State}
 use Rattle.state.specs.InRange.{InRange}
 use Rattle.sample.specs.Pair.{Pair, Ic}

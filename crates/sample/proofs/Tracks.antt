@@ -1,17 +1,16 @@
 -- The core bits decide: the laws of one sample, each stated once over the widths and the laws of companding.
 -- Assumes nothing.
-use mathlib.Core.Path.{_≡_, refl, sym, ap, _∙_}
+use mathlib.Core.Path.{_≡_, ap, _∙_}
 use Prim.Native.Nat.{ℕ, _-_, _^_, _≤_, _<_}
-use native.Mathlib.Omega.{arith}
 use Rattle.words.specs.Notation.{_>>_}
-use Rattle.quantizer.specs.Codeword.{Width, Codeword}
+use Rattle.quantizer.specs.Codeword.{Codeword}
 use Rattle.quantizer.proofs.Nesting.{nesting}
 use Rattle.state.specs.declared.State.{State}
 use Rattle.state.specs.InRange.{InRange}
 use Rattle.engine.specs.Advance.{advanceOf}
 use Rattle.engine.proofs.Keeps.{advance-in-range, advance-core}
 use Rattle.sample.specs.Pair.{Pair, Ic}
-use Rattle.sample.specs.Encode.{normalOf, I, encodeOf}
+use Rattle.sample.specs.Encode.{I, encodeOf}
 use Rattle.sample.specs.Decode.{decodeOf}
 use Rattle.sample.proofs.Normals.{dln-word, ds-bit, codeword-range}
 use Rattle.sample.proofs.Cores.{pair-width, core-codeword, core-of-thinned}

@@ -4,6 +4,7 @@ use Prim.Native.Nat.{ℕ, _-_, _≤_}
 use Rattle.words.specs.Notation.{_>>_}
 use Rattle.state.specs.declared.State.{State}
 
+-- this alone does not demand a core from 2 to 4: with a state in range it is one of the nine pairs
 pub record Pair (s : State) (width : ℕ) : Type 0 where
   pub core : s .core ≤ width
   pub most : width ≤ 5

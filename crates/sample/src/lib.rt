@@ -9,7 +9,7 @@ ghost use Rattle.state.specs.InRange.{InRange};
 ghost use Rattle.engine.specs.Estimate.{estimateOf};
 ghost use Rattle.sample.specs.Pair.{Pair, Ic};
 ghost use Rattle.sample.specs.Encode.{normalOf, encodeOf};
-ghost use Rattle.sample.specs.Decode.{SYNC, SP, SD, decodeOf};
+ghost use Rattle.sample.specs.Decode.{SYNC, SP, decodeOf};
 use engine::Estimated;
 use engine::difference::quantized_difference;
 use engine::step::advance;

@@ -1,14 +1,14 @@
 -- Speed control stays in 01's ranges: DMS up to 3,584, DML up to 14,336, AP up to 512. Each average moves towards a target that is in the
 -- range itself, and never past it.
 -- Assumes nothing.
-use mathlib.Core.Bool.{Bool, _&&_}
+use mathlib.Core.Bool.{_&&_}
 use mathlib.Core.Path.{_≡_}
-use Prim.Native.Nat.{ℕ, _+_, _-_, _*_, _/_, _%_, _≤_, _<_}
+use Prim.Native.Nat.{ℕ, _+_, _-_, _*_, _/_, _%_, _≤_}
 use native.Mathlib.Omega.{arith}
 use lib.Dec.{eqb, leb, ltb}
 use borrow.Author.Tests.{eqb-true, eqb-false, leb-false}
 use Rattle.words.specs.Notation.{pick}
-use Rattle.words.proofs.Pick.{by-pick, cases}
+use Rattle.words.proofs.Pick.{by-pick, cases, pick-le}
 use Rattle.speed.specs.Speed.{FILTA, FILTB, FILTC, LIMA, SUBTC, TRIGA}
 
 pub filta-range : (FI DMS : ℕ) → FI ≤ 7 → DMS ≤ 3584 → FILTA FI DMS ≤ 3584
@@ -51,15 +51,13 @@ pub lima-range : (AP : ℕ) → LIMA AP ≤ 64
 unfolding LIMA
 lima-range AP = by-pick (λ (n : ℕ). n ≤ 64) (leb 256 AP) 64 (AP / 4) (λ e. omega arith) (λ e. omega (arith, leb-false 256 AP e))
 
-bit : (t : Bool) → pick t 0 1 ≤ 1
-bit t = by-pick (λ (n : ℕ). n ≤ 1) t 0 1 (λ e. omega arith) (λ e. omega arith)
-
 pub subtc-range : (DMSP DMLP TDP Y : ℕ) → SUBTC DMSP DMLP TDP Y ≤ 1
 unfolding SUBTC
 subtc-range DMSP DMLP TDP Y =
     let DIF = (DMSP * 4 + 32768 - DMLP) % 32768 in
-    bit (leb 1536 Y && ltb (pick (eqb (DIF / 16384) 0) DIF ((32768 - DIF) % 16384)) (DMLP / 8) && eqb TDP 0)
+    let steady = leb 1536 Y && ltb (pick (eqb (DIF / 16384) 0) DIF ((32768 - DIF) % 16384)) (DMLP / 8) && eqb TDP 0 in
+    pick-le steady {a = 0} {b = 1} {n = 1} (omega arith) (omega arith)
 
 pub triga-range : (TR APP : ℕ) → APP ≤ 512 → TRIGA TR APP ≤ 512
 unfolding TRIGA
-triga-range TR APP h = by-pick (λ (n : ℕ). n ≤ 512) (eqb TR 0) APP 256 (λ e. h) (λ e. omega arith)
+triga-range TR APP h = pick-le (eqb TR 0) h (omega arith)

@@ -1,7 +1,7 @@
 // Adaptation speed control (G.727, section 6.2.6): how quickly the scale factor may follow the core
 // codewords. G.726 has the same sub-blocks.
 ghost use mathlib.Core.Path.{_≡_};
-ghost use Prim.Native.Nat.{_≤_, _<_};
+ghost use Prim.Native.Nat.{_<_};
 ghost use Rattle.speed.specs.Speed.{FILTA, FILTB, FILTC, LIMA, SUBTC, TRIGA};
 use words::choice::choose;
 

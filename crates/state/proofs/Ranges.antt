@@ -1,8 +1,8 @@
--- 01's table as a test and as facts: each follows from the other. The reset state is in range.
+-- 01's table as a test and as facts: each follows from the other. The reset state is in range, and its words are words.
 -- Assumes nothing.
 use mathlib.Core.Bool.{true}
 use mathlib.Core.List.{List}
-use mathlib.Core.Path.{_≡_}
+use mathlib.Core.Path.{_≡_, refl}
 use Prim.Native.Nat.{ℕ, _/_, _%_, zero-le, _≤_}
 use native.Mathlib.Omega.{arith}
 use lib.ListN.{getD}
@@ -14,6 +14,7 @@ use Rattle.state.specs.declared.State.{State}
 use Rattle.state.specs.Reset.{resetOf}
 use Rattle.state.specs.Range.{within, isFloatWord, floatWords, adaptationInRange, signalsInRange, inRange}
 use Rattle.state.specs.InRange.{FloatWords, InRange}
+use Rattle.state.specs.Words.{Words}
 
 within-says : (least greatest n : ℕ) → within least greatest n ≡ true → Within least greatest n
 unfolding within
@@ -107,3 +108,7 @@ reset-in-range core w =
       tone = omega arith;
       cores = w;
     }
+
+pub reset-words : (core : ℕ) → Words (resetOf core)
+unfolding resetOf
+reset-words core = record { pole1 = omega arith; pole2 = omega arith; zeros = omega arith; six-zeros = refl; six-differences = refl }

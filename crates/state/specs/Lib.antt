@@ -1,3 +1,4 @@
 pub mod Reset
 pub mod Range
 pub mod InRange
+pub mod Words

@@ -1,3 +1,4 @@
 pub mod Length
 pub mod Pick
+pub mod Tests
 pub mod Rows

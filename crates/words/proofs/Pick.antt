@@ -18,6 +18,13 @@ cases false p q = q refl
 pub pick-le : (t : Bool) {a b n : ℕ} → a ≤ n → b ≤ n → pick t a b ≤ n
 pick-le t {a} {b} {n} p q = by-pick (λ (x : ℕ). x ≤ n) t a b (λ e. p) (λ e. q)
 
+pub pick-lt : (t : Bool) {a b n : ℕ} → a < n → b < n → pick t a b < n
+pick-lt t {a} {b} {n} p q = by-pick (λ (x : ℕ). x < n) t a b (λ e. p) (λ e. q)
+
+-- a brace whose rows are 1 and 0 is a bit
+pub bit : (t : Bool) → pick t 1 0 < 2
+bit t = pick-lt t (omega arith) (omega arith)
+
 -- a row of refusals that gave no number was passed, and what stands behind it gave none
 pub passed : (t : Bool) (n rest : ℕ) → 0 < n → pick t n rest ≡ 0 → (t ≡ false) × (rest ≡ 0)
 passed true n rest h e = absurd (omega arith)

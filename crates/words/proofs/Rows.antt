@@ -1,30 +1,29 @@
 -- Every row of a table of tests holds exactly where their join does.
 -- Assumes nothing.
-use mathlib.Core.Bool.{Bool, true, false, _&&_}
+use mathlib.Core.Bool.{Bool, true, _&&_}
 use mathlib.Core.List.{List, [], _∷_}
 use mathlib.Core.Path.{_≡_, refl}
+use lib.Dec.{T}
 use Rattle.words.specs.Every.{joined, every}
+use Rattle.words.proofs.Tests.{and-left, and-right, is-true}
 
 -- the rows one by one
 abbrev pub Each : List Bool → Type 0
 Each [] = Unit
 Each (t ∷ ts) = (t ≡ true) × Each ts
 
-left : (a b : Bool) → a && b ≡ true → a ≡ true
-left true b t = refl
-left false b t = t
-
-right : (a b : Bool) → a && b ≡ true → b ≡ true
-right true b t = t
-right false true t = refl
-right false false t = t
+both : (a b : Bool) → a && b ≡ true → (a ≡ true) × (b ≡ true)
+both a b e =
+    let t : T (a && b) = rw e tt in
+    (is-true a (and-left a b t), is-true b (and-right a b t))
 
 joined-says : (t : Bool) (ts : List Bool) → joined t ts ≡ true → (t ≡ true) × Each ts
 unfolding joined
 joined-says t [] e = (e, tt)
 joined-says t (u ∷ us) e =
     let r = joined-says (t && u) us e in
-    (left t u (r .0), (right t u (r .0), r .1))
+    let rows = both t u (r .0) in
+    (rows .0, (rows .1, r .1))
 
 joined-of : (t : Bool) (ts : List Bool) → t ≡ true → Each ts → joined t ts ≡ true
 unfolding joined

@@ -1,9 +1,9 @@
--- `sample::adjusted` meets its contract: what it calls and tests is what the definition says.
+-- `sample::adjusted` meets its contract: what it calls and tests is what the definition says. The received width is a width, and so is a core.
 -- Assumes nothing.
 use borrow.Author.Needs.{needs}
+use native.Mathlib.Omega.{arith}
 use mathlib.Core.Path.{_≡_, sym, _∙_}
 use Rattle.quantizer.specs.Sync.{ID}
-use Rattle.quantizer.proofs.Halves.{width-of}
 use Rattle.sample.specs.Encode.{normalOf}
 use Rattle.sample.proofs.Normals.{dln-word, ds-bit}
 use Rattle.sample.proofs.Adjusting.{sync-above, sync-same, sync-below}
@@ -16,7 +16,7 @@ normalized-requires c κs = search needs
 order-of-difference-requires : tie.Need-order-of-difference-requires
 order-of-difference-requires c κs =
     let at = c .before .args in
-    (width-of (c .before .pre .2), rw (c .normalized .ensures) (dln-word (at .s) (at .law) (at .sp)), rw (c .normalized .ensures) (ds-bit (at .s) (at .law) (at .sp)))
+    (omega arith, rw (c .normalized .ensures) (dln-word (at .s) (at .law) (at .sp)), rw (c .normalized .ensures) (ds-bit (at .s) (at .law) (at .sp)))
 
 order-requires : tie.Need-order-requires
 order-requires c κs = search needs

@@ -1,8 +1,6 @@
 -- `scale::filtd` meets its contract: its choices are those of the sub-block.
 -- Assumes nothing.
 use borrow.Author.Needs.{needs}
-use Prim.Native.Nat.{_≤_}
-use native.Mathlib.Omega.{arith}
 use Rattle.scale.specs.Scale.{FILTD}
 use Rattle.scale.proofs.filtd.Statement.{statement}
 use Rattle.scale.proofs.filtd.Tie as tie

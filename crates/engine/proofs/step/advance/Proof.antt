@@ -62,13 +62,10 @@ array-read-t26 c = search needs
 array-read-t29 : tie.Need-array-read-t29
 array-read-t29 c = search needs
 
-addb-requires : tie.Need-addb-requires
-addb-requires c κs =
+next-signal-requires : tie.Need-next-signal-requires
+next-signal-requires c κs =
     let at = c .before .before .before .before .before .before .before .before .before .before .before .before in
     rw (se-is (at .args .s) (at .pre .1)) (se-word (at .args .s))
-
-floatb-requires : tie.Need-floatb-requires
-floatb-requires c κs = search needs
 
 trigb-requires : tie.Need-trigb-requires
 trigb-requires c κs = search needs
@@ -76,21 +73,21 @@ trigb-requires c κs = search needs
 returns : tie.Need-returns
 unfolding advanceOf
 returns c =
-    let at = c .before .before .before .before .before .before .before .before .before .before .before .before .before .before .before in
+    let at = c .before .before .before .before .before .before .before .before .before .before .before .before .before .before in
     let s = at .args .s in
     let ic = at .args .ic in
     let is = at .pre .1 in
-    let d = dq-is s ic is (c .before .before .before .before .before .before .before .before .before .before .before .before .before .before .quantized-difference .ensures) in
-    let t = tr-is s ic is d (c .before .before .before .before .before .before .before .before .before .before .before .before .before .trans .ensures) in
-    let sign = c .before .before .before .before .before .before .before .before .before .before .before .before .addc .ensures in
+    let d = dq-is s ic is (c .before .before .before .before .before .before .before .before .before .before .before .before .before .quantized-difference .ensures) in
+    let t = tr-is s ic is d (c .before .before .before .before .before .before .before .before .before .before .before .before .trans .ensures) in
+    let sign = c .before .before .before .before .before .before .before .before .before .before .before .addc .ensures in
     let p0 = pk0-is s ic is d sign in
     let sg = sigpk-is s ic is d sign in
-    let poles = c .before .before .before .before .before .before .before .before .before .before .before .next-poles .ensures in
+    let poles = c .before .before .before .before .before .before .before .before .before .before .next-poles .ensures in
     let tdp = tdp-is s ic is t p0 sg poles in
-    let scales = c .before .before .before .before .before .before .before .before .before .next-scales .ensures in
-    let wi = c .before .before .before .before .before .before .before .before .before .before .functw .ensures in
-    let speeds = c .before .before .before .before .before .before .before .next-speeds .ensures in
-    let fi = c .before .before .before .before .before .before .before .before .functf .ensures in
+    let scales = c .before .before .before .before .before .before .before .before .next-scales .ensures in
+    let wi = c .before .before .before .before .before .before .before .before .before .functw .ensures in
+    let speeds = c .before .before .before .before .before .before .next-speeds .ensures in
+    let fi = c .before .before .before .before .before .before .before .functf .ensures in
     λ i. record {
       yu = yu-is s ic is wi scales i;
       yl = yl-is s ic is wi scales i;
@@ -99,9 +96,9 @@ returns c =
       ap = ap-is s ic is t fi tdp speeds i;
       a1 = a1-is s ic is t p0 sg poles i;
       a2 = a2-is s ic is t p0 sg poles i;
-      b = zeros-are s ic is d t (c .before .before .before .before .next-zeros .ensures) i;
-      dq = dq0-is s ic is d (c .before .before .before .floata .ensures) i ∷ getD (s .dq) 0 0 ∷ getD (s .dq) 1 0 ∷ getD (s .dq) 2 0 ∷ getD (s .dq) 3 0 ∷ getD (s .dq) 4 0 ∷ [];
-      sr1 = sr0-is s ic is d (c .before .before .addb .ensures) (c .before .floatb .ensures) i;
+      b = zeros-are s ic is d t (c .before .before .before .next-zeros .ensures) i;
+      dq = dq0-is s ic is d (c .before .before .floata .ensures) i ∷ getD (s .dq) 0 0 ∷ getD (s .dq) 1 0 ∷ getD (s .dq) 2 0 ∷ getD (s .dq) 3 0 ∷ getD (s .dq) 4 0 ∷ [];
+      sr1 = sr0-is s ic is d (c .before .next-signal .ensures) i;
       sr2 = s .sr1;
       pk1 = p0 i;
       pk2 = s .pk1;
@@ -128,7 +125,6 @@ advance-spec =
     array-read-t23
     array-read-t26
     array-read-t29
-    addb-requires
-    floatb-requires
+    next-signal-requires
     trigb-requires
     returns)

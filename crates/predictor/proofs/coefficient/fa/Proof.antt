@@ -23,7 +23,9 @@ choose-wide-requires-3 : tie.Need-choose-wide-requires-3
 choose-wide-requires-3 c κs = search needs
 
 sub-choose-wide : tie.Need-sub-choose-wide
-sub-choose-wide c = rw (c .choose-wide3 .ensures .is, c .before .choose-wide2 .ensures .is, c .before .before .choose-wide .ensures .is) (le-of-lt (fa1-word (c .before .before .before .args .a1)))
+sub-choose-wide c =
+    rw (c .choose-wide3 .ensures .is)
+    (le-of-lt (fa1-word (c .before .before .before .args .a1) (c .before .before .choose-wide .ensures .small) (c .before .choose-wide2 .ensures .small)))
 
 choose-wide-requires-4 : tie.Need-choose-wide-requires-4
 choose-wide-requires-4 c κs = search needs

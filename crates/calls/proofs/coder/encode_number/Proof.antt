@@ -1,0 +1,78 @@
+use borrow.Author.Needs.{needs}
+use mathlib.Core.Path.{sym, _∙_}
+use Prim.Native.Nat.{_*_, _/_, _≤_}
+use native.Mathlib.Nat.{mul-le-mul}
+use native.Mathlib.Omega.{arith}
+use borrow.Author.Tests.{lt-ltb, le-ltb, not-true, not-false}
+use Rattle.frame.specs.Format.{frameLength}
+use Rattle.frame.proofs.Sounds.{pair-says, count-says}
+use Rattle.calls.specs.Reply.{badLaw}
+use Rattle.calls.specs.Encode.{encodeNumber}
+use Rattle.calls.proofs.coder.encode_number.Statement.{statement}
+use Rattle.calls.proofs.coder.encode_number.Tie as tie
+use Rattle.calls.proofs.coder.encode_number.Reads as reads
+use Rattle.calls.proofs.coder.encode_number.Lts as lts
+use Rattle.frame.proofs.format.bad_count.Reads as bad-count-reads
+use Rattle.frame.proofs.format.bad_pair.Reads as bad-pair-reads
+use Rattle.state.proofs.in_range.Reads as in-range-reads
+
+product : (c : tie.Else4) → c .before .before .before .before .before .before .before .args .width * (c .before .before .before .before .before .before .before .args .n / 8) ≤ 5 * 40
+product c =
+    let pair = pair-says _ _ (sym (c .before .before .before .bad-pair .ensures) ∙ c .before .before .if3 .left) in
+    let count = count-says _ (sym (c .before .bad-count .ensures) ∙ c .if4 .left) in
+    mul-le-mul (pair .1 .high) (count .1 .high)
+
+in-range-requires : tie.Need-in-range-requires
+in-range-requires c κs = search needs
+
+returns : tie.Need-returns
+unfolding encodeNumber
+returns c = rw (sym (c .before .in-range .ensures) ∙ not-true _ (c .if1 .taken))
+
+returns-2 : tie.Need-returns-2
+unfolding encodeNumber badLaw
+returns-2 c = rw (sym (c .before .before .in-range .ensures) ∙ not-false _ (c .before .if1 .left), lt-ltb _ _ (c .if2 .taken))
+
+bad-pair-requires : tie.Need-bad-pair-requires
+bad-pair-requires c κs = search needs
+
+returns-3 : tie.Need-returns-3
+unfolding encodeNumber badLaw
+returns-3 c = rw (sym (c .before .before .before .before .in-range .ensures) ∙ not-false _ (c .before .before .before .if1 .left), le-ltb _ _ (c .before .before .if2 .left), sym (c .before .bad-pair .ensures) ∙ c .if3 .taken)
+
+bad-count-requires : tie.Need-bad-count-requires
+bad-count-requires c κs = search needs
+
+returns-4 : tie.Need-returns-4
+unfolding encodeNumber badLaw
+returns-4 c = rw (sym (c .before .before .before .before .before .before .in-range .ensures) ∙ not-false _ (c .before .before .before .before .before .if1 .left), le-ltb _ _ (c .before .before .before .before .if2 .left), sym (c .before .before .before .bad-pair .ensures) ∙ c .before .before .if3 .left, sym (c .before .bad-count .ensures) ∙ c .if4 .taken)
+
+mul-if5 : tie.Need-mul-if5
+mul-if5 c = omega (arith, product c)
+
+add-if5 : tie.Need-add-if5
+add-if5 c = omega (arith, product c)
+
+returns-5 : tie.Need-returns-5
+unfolding encodeNumber badLaw frameLength
+returns-5 c = rw (sym (c .before .before .before .before .before .before .before .in-range .ensures) ∙ not-false _ (c .before .before .before .before .before .before .if1 .left), le-ltb _ _ (c .before .before .before .before .before .if2 .left), sym (c .before .before .before .before .bad-pair .ensures) ∙ c .before .before .before .if3 .left, sym (c .before .before .bad-count .ensures) ∙ c .before .if4 .left, lt-ltb _ _ (c .if5 .taken))
+
+returns-6 : tie.Need-returns-6
+unfolding encodeNumber badLaw frameLength
+returns-6 c = rw (sym (c .before .before .before .before .before .before .before .in-range .ensures) ∙ not-false _ (c .before .before .before .before .before .before .if1 .left), le-ltb _ _ (c .before .before .before .before .before .if2 .left), sym (c .before .before .before .before .bad-pair .ensures) ∙ c .before .before .before .if3 .left, sym (c .before .before .bad-count .ensures) ∙ c .before .if4 .left, le-ltb _ _ (c .if5 .left))
+
+pub encode-number-spec : {M : Type 1} → statement M
+encode-number-spec =
+    tie.close
+    (tie.spec
+    in-range-requires
+    returns
+    returns-2
+    bad-pair-requires
+    returns-3
+    bad-count-requires
+    returns-4
+    mul-if5
+    add-if5
+    returns-5
+    returns-6)

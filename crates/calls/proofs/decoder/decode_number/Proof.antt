@@ -1,0 +1,81 @@
+use borrow.Author.Needs.{needs}
+use mathlib.Core.Path.{sym, _∙_}
+use native.Mathlib.Omega.{arith}
+use borrow.Author.Tests.{lt-ltb, le-ltb, eq-eqb, ne-eqb, not-true, not-false}
+use denote.Ref.{now}
+use Rattle.frame.specs.Format.{coreOf}
+use Rattle.frame.specs.Read.{frameCore, frameGroups}
+use Rattle.frame.specs.Sound.{Sound}
+use Rattle.frame.proofs.Sounds.{sound-says}
+use Rattle.calls.specs.Reply.{badLaw}
+use Rattle.calls.specs.Decode.{decodeNumber}
+use Rattle.calls.proofs.decoder.decode_number.Statement.{statement}
+use Rattle.calls.proofs.decoder.decode_number.Tie as tie
+use Rattle.calls.proofs.decoder.decode_number.Reads as reads
+use Rattle.calls.proofs.decoder.decode_number.Lts as lts
+use Rattle.calls.proofs.replies.wide.Reads as wide-reads
+use Rattle.frame.proofs.format.wrong_with.Reads as wrong-with-reads
+use Rattle.state.proofs.in_range.Reads as in-range-reads
+
+-- behind the third test nothing is wrong with the frame
+sound : (c : tie.Else3) → Sound (now (c .before .before .before .before .before .before .args .frame))
+sound c = sound-says _ (sym (c .before .wrong-with .ensures) ∙ c .if3 .left)
+
+in-range-requires : tie.Need-in-range-requires
+in-range-requires c κs = search needs
+
+returns : tie.Need-returns
+unfolding decodeNumber
+returns c = rw (sym (c .before .in-range .ensures) ∙ not-true _ (c .if1 .taken))
+
+returns-2 : tie.Need-returns-2
+unfolding decodeNumber badLaw
+returns-2 c = rw (sym (c .before .before .in-range .ensures) ∙ not-false _ (c .before .if1 .left), lt-ltb _ _ (c .if2 .taken))
+
+wrong-with-requires : tie.Need-wrong-with-requires
+wrong-with-requires c κs = search needs
+
+returns-3 : tie.Need-returns-3
+unfolding decodeNumber badLaw
+returns-3 c = rw (sym (c .before .before .before .before .in-range .ensures) ∙ not-false _ (c .before .before .before .if1 .left), le-ltb _ _ (c .before .before .if2 .left), ← c .before .wrong-with .ensures, ne-eqb _ _ (c .if3 .taken))
+
+shared-slice-read-if4 : tie.Need-shared-slice-read-if4
+shared-slice-read-if4 c = omega (arith, sound (c .before) .long)
+
+returns-4 : tie.Need-returns-4
+unfolding decodeNumber badLaw frameCore coreOf
+returns-4 c = rw (sym (c .before .before .before .before .before .before .before .in-range .ensures) ∙ not-false _ (c .before .before .before .before .before .before .if1 .left), le-ltb _ _ (c .before .before .before .before .before .if2 .left), eq-eqb _ _ (sym (c .before .before .before .before .wrong-with .ensures) ∙ c .before .before .before .if3 .left), ne-eqb _ _ (c .if4 .taken))
+
+shared-slice-read-wide : tie.Need-shared-slice-read-wide
+shared-slice-read-wide c = omega (arith, sound (c .before .before .before .before) .long)
+
+wide-requires : tie.Need-wide-requires
+wide-requires c κs = search needs
+
+mul-if5 : tie.Need-mul-if5
+mul-if5 c = search needs
+
+returns-5 : tie.Need-returns-5
+unfolding decodeNumber badLaw frameCore coreOf frameGroups
+returns-5 c = rw (sym (c .before .before .before .before .before .before .before .before .before .before .in-range .ensures) ∙ not-false _ (c .before .before .before .before .before .before .before .before .before .if1 .left), le-ltb _ _ (c .before .before .before .before .before .before .before .before .if2 .left), eq-eqb _ _ (sym (c .before .before .before .before .before .before .before .wrong-with .ensures) ∙ c .before .before .before .before .before .before .if3 .left), eq-eqb _ _ (c .before .before .before .if4 .left), ← c .before .wide .ensures .0, lt-ltb _ _ (c .if5 .taken))
+
+returns-6 : tie.Need-returns-6
+unfolding decodeNumber badLaw frameCore coreOf frameGroups
+returns-6 c = rw (sym (c .before .before .before .before .before .before .before .before .before .before .in-range .ensures) ∙ not-false _ (c .before .before .before .before .before .before .before .before .before .if1 .left), le-ltb _ _ (c .before .before .before .before .before .before .before .before .if2 .left), eq-eqb _ _ (sym (c .before .before .before .before .before .before .before .wrong-with .ensures) ∙ c .before .before .before .before .before .before .if3 .left), eq-eqb _ _ (c .before .before .before .if4 .left), ← c .before .wide .ensures .0, le-ltb _ _ (c .if5 .left))
+
+pub decode-number-spec : {M : Type 1} → statement M
+decode-number-spec =
+    tie.close
+    (tie.spec
+    in-range-requires
+    returns
+    returns-2
+    wrong-with-requires
+    returns-3
+    shared-slice-read-if4
+    returns-4
+    shared-slice-read-wide
+    wide-requires
+    mul-if5
+    returns-5
+    returns-6)

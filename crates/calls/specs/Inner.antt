@@ -1,0 +1,50 @@
+-- What the inner functions of encode, decode and drop ask and promise. A reader of the public contracts does not need it.
+-- Assumes nothing.
+use mathlib.Core.List.{List, _++_}
+use mathlib.Core.Path.{_≡_}
+use Prim.Native.Nat.{ℕ, _*_, _/_, _≤_, _<_}
+use lib.ListN.{length, drop}
+use Rattle.words.specs.Within.{Within}
+use Rattle.state.specs.declared.State.{State}
+use Rattle.state.specs.InRange.{InRange}
+use Rattle.sample.specs.Pair.{Pair}
+use Rattle.frame.specs.Format.{group, mostGroups, frameLength}
+use Rattle.frame.specs.Read.{frameWidth, frameCore, frameGroups}
+use Rattle.frame.specs.Sound.{Sound}
+use Rattle.calls.specs.declared.decoder.Played.{Played}
+use Rattle.calls.specs.Encode.{encodedState, encodedCodewords, encodedFrame}
+use Rattle.calls.specs.Decode.{decodedState, decodedBytes, decodedMoved}
+
+-- what encode's 0 says
+pub record Codable (s : State) (width n room : ℕ) : Type 0 where
+  pub range : InRange s
+  pub pair : Pair s width
+  pub whole : n / group * group ≡ n
+  pub groups : Within 1 mostGroups (n / group)
+  pub space : frameLength width (n / group) ≤ room
+
+-- what decode's 0 says
+pub record Playable (s : State) (frame : List ℕ) (room : ℕ) : Type 0 where
+  pub range : InRange s
+  pub sound : Sound frame
+  pub core : frameCore frame ≡ s .core
+  pub space : group * frameGroups frame ≤ room
+
+-- what drop's 0 says
+pub record Droppable (frame : List ℕ) (w room : ℕ) : Type 0 where
+  pub sound : Sound frame
+  pub target : Within (frameCore frame) (frameWidth frame) w
+  pub space : frameLength w (frameGroups frame) ≤ room
+
+pub record CodesAll (s : State) (LAW width : ℕ) (samples before after : List ℕ) (r : State) : Type 0 where
+  pub state : r ≡ encodedState s LAW width samples
+  pub out : after ≡ encodedCodewords s LAW width samples ++ drop (length samples) before
+
+pub record CodesFrame (s : State) (LAW width : ℕ) (samples before after : List ℕ) (r : State) : Type 0 where
+  pub state : r ≡ encodedState s LAW width samples
+  pub out : after ≡ encodedFrame s LAW width samples ++ drop (frameLength width (length samples / group)) before
+
+pub record PlaysFrame (s : State) (LAW : ℕ) (frame before after : List ℕ) (r : Played) : Type 0 where
+  pub state : r .state ≡ decodedState s LAW frame
+  pub moved : r .moved ≡ decodedMoved s LAW frame
+  pub out : after ≡ decodedBytes s LAW frame ++ drop (group * frameGroups frame) before

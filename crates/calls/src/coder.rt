@@ -1,0 +1,82 @@
+// encode(state, law, width, samples, out)
+ghost use mathlib.Core.Path.{_≡_};
+ghost use mathlib.Core.List.{_++_};
+ghost use Prim.Native.Nat.{_≤_, _<_};
+ghost use lib.ListN.{length, drop};
+ghost use Rattle.state.specs.InRange.{InRange};
+ghost use Rattle.sample.specs.Pair.{Pair};
+ghost use Rattle.calls.specs.Encode.{encodeNumber, Encodes};
+ghost use Rattle.calls.specs.Inner.{Codable, CodesAll, CodesFrame};
+use crate::replies::reply_of;
+use crate::{Coded, Reply};
+use frame::format::{bad_count, bad_pair};
+use frame::whole::write_frame;
+use sample::encode_sample;
+use state::{State, in_range};
+
+pub fn encode(s: State, law: u8, width: u8, samples: &[u8], out: &mut [u8]) -> Coded
+    ensures { λ r. ⌜ Encodes s law width (now (samples .entry)) (now (out .entry)) (now (out .exit)) r ⌝ }
+{
+    let number = encode_number(s, law, width, samples.len(), out.len());
+    if number != 0 {
+        return Coded { reply: reply_of(number), octets: 0, state: s };
+    }
+    let octets = 2 + (width as usize) * (samples.len() / 8);
+    let next = encode_into(s, law, width, samples, out);
+    Coded { reply: Reply::Done, octets, state: next }
+}
+
+fn encode_number(s: State, law: u8, width: u8, n: usize, room: usize) -> u8
+    ensures { λ r. ⌜ r ≡ encodeNumber s law width n room ⌝ }
+{
+    if !in_range(s) {
+        return 4;
+    }
+    if 1 < law {
+        return 9;
+    }
+    if bad_pair(width, s.core) {
+        return 1;
+    }
+    if bad_count(n) {
+        return 2;
+    }
+    if room < 2 + (width as usize) * (n / 8) {
+        return 3;
+    }
+    0
+}
+
+fn encode_into(s: State, law: u8, width: u8, samples: &[u8], out: &mut [u8]) -> State
+    requires { ⌜ Codable s width (length (now samples)) (length (now out)) ⌝ }
+    ensures { λ r. ⌜ CodesFrame s law width (now (samples .entry)) (now (out .entry)) (now (out .exit)) r ⌝ }
+{
+    let mut codewords = blank();
+    let next = encode_all(s, law, width, samples, &mut codewords);
+    let n = samples.len();
+    write_frame(&codewords[..n], width, s.core, out);
+    next
+}
+
+// The codewords of all samples, one to an octet
+fn encode_all(s: State, law: u8, width: u8, samples: &[u8], codewords: &mut [u8]) -> State
+    requires { ⌜ InRange s × Pair s width × (length (now samples) ≤ length (now codewords)) ⌝ }
+    ensures { λ r. ⌜ CodesAll s law width (now (samples .entry)) (now (codewords .entry)) (now (codewords .exit)) r ⌝ }
+{
+    let mut state = s;
+    let mut i = 0;
+    while i < samples.len() {
+        let e = encode_sample(state, law, width, samples[i]);
+        codewords[i] = e.codeword;
+        let next = e.state;
+        state = next;
+        i += 1;
+    }
+    state
+}
+
+fn blank() -> [u8; 320]
+    ensures { λ r. ⌜ length r ≡ 320 ⌝ }
+{
+    [0u8; 320]
+}

@@ -1,0 +1,74 @@
+// decode(state, law, frame, out)
+ghost use mathlib.Core.Path.{_≡_};
+ghost use Prim.Native.Nat.{_≤_, _<_};
+ghost use lib.ListN.{length};
+ghost use Rattle.calls.specs.Decode.{decodeNumber, Decodes};
+ghost use Rattle.calls.specs.Inner.{Playable, PlaysFrame};
+use crate::Heard;
+use crate::Reply;
+use crate::replies::{reply_of, wide};
+use frame::format::wrong_with;
+use frame::planes::codeword_at;
+use sample::decode_sample;
+use state::{State, in_range};
+
+pub struct Played {
+    pub moved: usize,
+    pub state: State,
+}
+
+pub fn decode(s: State, law: u8, frame: &[u8], out: &mut [u8]) -> Heard
+    ensures { λ r. ⌜ Decodes s law (now (frame .entry)) (now (out .entry)) (now (out .exit)) r ⌝ }
+{
+    let number = decode_number(s, law, frame, out.len());
+    if number != 0 {
+        return Heard { reply: reply_of(number), octets: 0, moved: 0, state: s };
+    }
+    let octets = 8 * wide(frame[1]);
+    let played = decode_into(s, law, frame, out);
+    let next = played.state;
+    Heard { reply: Reply::Done, octets, moved: played.moved, state: next }
+}
+
+fn decode_number(s: State, law: u8, frame: &[u8], room: usize) -> u8
+    ensures { λ r. ⌜ r ≡ decodeNumber s law (now (frame .entry)) room ⌝ }
+{
+    if !in_range(s) {
+        return 4;
+    }
+    if 1 < law {
+        return 9;
+    }
+    let wrong = wrong_with(frame);
+    if wrong != 0 {
+        return wrong;
+    }
+    if frame[0] % 8 != s.core {
+        return 7;
+    }
+    if room < 8 * wide(frame[1]) {
+        return 3;
+    }
+    0
+}
+
+// Each sample's byte, and what the state and the moved count come to
+fn decode_into(s: State, law: u8, frame: &[u8], out: &mut [u8]) -> Played
+    requires { ⌜ Playable s (now frame) (length (now out)) ⌝ }
+    ensures { λ r. ⌜ PlaysFrame s law (now (frame .entry)) (now (out .entry)) (now (out .exit)) r ⌝ }
+{
+    let x = (frame[0] >> 3) % 8;
+    let g = wide(frame[1]);
+    let mut state = s;
+    let mut moved = 0;
+    let mut k = 0;
+    while k < 8 * g {
+        let d = decode_sample(state, law, x, codeword_at(&frame[2..], x, g, k));
+        out[k] = d.byte;
+        moved += d.moved as usize;
+        let next = d.state;
+        state = next;
+        k += 1;
+    }
+    Played { moved, state }
+}

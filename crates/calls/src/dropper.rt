@@ -1,0 +1,38 @@
+// drop_planes(frame, width, out)
+ghost use mathlib.Core.Path.{_≡_};
+ghost use Prim.Native.Nat.{_≤_, _<_};
+ghost use lib.ListN.{length};
+ghost use Rattle.calls.specs.Drop.{dropNumber, Drops};
+use crate::replies::{reply_of, wide};
+use crate::{Dropped, Reply};
+use frame::format::wrong_with;
+use frame::whole::thin_frame;
+
+pub fn drop_planes(frame: &[u8], width: u8, out: &mut [u8]) -> Dropped
+    ensures { λ r. ⌜ Drops (now (frame .entry)) width (now (out .entry)) (now (out .exit)) r ⌝ }
+{
+    let number = drop_number(frame, width, out.len());
+    if number != 0 {
+        return Dropped { reply: reply_of(number), octets: 0 };
+    }
+    let octets = 2 + (width as usize) * wide(frame[1]);
+    thin_frame(frame, width, out);
+    Dropped { reply: Reply::Done, octets }
+}
+
+fn drop_number(frame: &[u8], width: u8, room: usize) -> u8
+    ensures { λ r. ⌜ r ≡ dropNumber (now (frame .entry)) width room ⌝ }
+{
+    let wrong = wrong_with(frame);
+    if wrong != 0 {
+        return wrong;
+    }
+    let first = frame[0];
+    if (width < first % 8) | ((first >> 3) % 8 < width) {
+        return 8;
+    }
+    if room < 2 + (width as usize) * wide(frame[1]) {
+        return 3;
+    }
+    0
+}

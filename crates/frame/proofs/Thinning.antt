@@ -1,0 +1,126 @@
+-- Dropping planes is shifting codewords to the right: what is kept of a frame is the frame of the shorter codewords, in one step or in several,
+-- and a frame thinned to its own width is itself (01, "The radio frame").
+-- Assumes nothing.
+use mathlib.Core.Path.{_≡_, refl, sym, _∙_}
+use mathlib.Core.List.{List, [], _∷_, map}
+use Prim.Native.Nat.{ℕ, zero, suc, _+_, _-_, _*_, _/_, _%_, _^_, _≤_, _<_}
+use native.Mathlib.Nat.{zero-mul, suc-mul, add-comm, zero-add, suc-add, zero-div, mul-le-mul-right, lt-of-le-of-lt}
+use native.Mathlib.Omega.{arith}
+use lib.ListN.{length, getD, take, drop, length-drop, length-map}
+use lib.Pow.{shr-shr}
+use lib.Seq.{take-all, take-take, take-append-add, getD-take}
+use Rattle.words.specs.Notation.{_>>_}
+use Rattle.lists.proofs.Tables.{tabulate-same}
+use Rattle.frame.specs.Format.{widthOf, frameLength}
+use Rattle.frame.specs.Planes.{bit, gather, octetAt, plane, planes, frameOf}
+use Rattle.frame.specs.Read.{collect, codewordAt, codewords, frameWidth, frameCore, frameGroups, body, received, thinned}
+use Rattle.frame.specs.Sound.{Sound}
+use Rattle.frame.proofs.Bits.{bit-gone}
+use Rattle.frame.proofs.Fields.{head-back, width-small, written-fields, thinned-fields}
+use Rattle.frame.proofs.Parts.{drop-take, drop-map, map-tabulate}
+use Rattle.frame.proofs.Sizes.{plane-length}
+
+-- the codewords with their d lowest bits left out
+abbrev shorter : ℕ → List ℕ → List ℕ
+shorter d cws = map (λ c. c >> d) cws
+
+module _ (b d : ℕ) where
+  bit-shorter : (cws : List ℕ) → bit b (getD (shorter d cws) 0 0) ≡ bit (b + d) (getD cws 0 0)
+  unfolding bit
+  bit-shorter [] = rw (zero-div (2 ^ b), zero-div (2 ^ (b + d)))
+  bit-shorter (c ∷ cws) = rw (shr-shr c d b, add-comm d b)
+
+  gather-shorter : (n : ℕ) (cws : List ℕ) (there : ℕ) → gather n b (shorter d cws) there ≡ gather n (b + d) cws there
+  unfolding gather
+  gather-shorter zero cws there = refl
+  gather-shorter (suc n) cws there = rw (drop-map (λ c. c >> d) 1 cws, bit-shorter cws) (gather-shorter n (drop 1 cws) (there * 2 + bit (b + d) (getD cws 0 0)))
+
+  plane-shorter : (g : ℕ) (cws : List ℕ) → plane g b (shorter d cws) ≡ plane g (b + d) cws
+  unfolding plane octetAt
+  plane-shorter g cws = tabulate-same g (octetAt b (shorter d cws)) (octetAt (b + d) cws) (λ j h. rw (drop-map (λ c. c >> d) (8 * j) cws) (gather-shorter 8 (drop (8 * j) cws) 0))
+
+planes-shorter : (g w d : ℕ) (cws : List ℕ) → planes g w (shorter d cws) ≡ take (w * g) (planes g (w + d) cws)
+unfolding planes
+planes-shorter g zero d cws = rw (zero-mul g)
+planes-shorter g (suc w) d cws =
+    let first : plane g w (shorter d cws) ≡ plane g (w + d) cws = plane-shorter w d g cws in
+    let size : length (plane g (w + d) cws) ≡ g = plane-length g (w + d) cws in
+    let places : suc w * g ≡ length (plane g (w + d) cws) + w * g = suc-mul w g ∙ add-comm (w * g) g ∙ rw size in
+    rw (suc-add w d, places, take-append-add (plane g (w + d) cws) (planes g (w + d) cws) (w * g), first, planes-shorter g w d cws)
+
+-- the first w of x planes are the planes of the codewords without their x - w lowest bits
+pub planes-thinned : (g : ℕ) {w x : ℕ} → w ≤ x → (cws : List ℕ) → planes g w (map (λ c. c >> (x - w)) cws) ≡ take (w * g) (planes g x cws)
+planes-thinned g {w} {x} narrow cws =
+    let places : w + (x - w) ≡ x = omega arith in
+    rw places at (planes-shorter g w (x - w) cws)
+
+pub frame-thinned : {w x y : ℕ} → w ≤ x → x < 8 → y < 8 → (cws : List ℕ) → thinned w (frameOf x y cws) ≡ frameOf w y (map (λ c. c >> (x - w)) cws)
+unfolding thinned frameOf
+frame-thinned {w} {x} narrow wide deep cws =
+    let f = written-fields wide deep cws in
+    rw (f .core, f .groups, f .rest, length-map cws (λ c. c >> (x - w)), planes-thinned (length cws / 8) narrow cws)
+
+-- thinning twice is thinning once
+pub thinned-thinned : {v w : ℕ} → v ≤ w → w < 8 → (frame : List ℕ) → thinned v (thinned w frame) ≡ thinned v frame
+unfolding thinned
+thinned-thinned {v} {w} less narrow frame =
+    let f = thinned-fields narrow frame in
+    let fewer : v * frameGroups frame ≤ w * frameGroups frame = mul-le-mul-right (frameGroups frame) less in
+    rw (f .core, f .groups, f .rest, take-take (v * frameGroups frame) (w * frameGroups frame) (body frame))
+
+-- a frame is its header and its planes
+whole-frame : (frame : List ℕ) → 2 ≤ length frame → frame ≡ getD frame 0 0 ∷ frameGroups frame ∷ body frame
+unfolding frameGroups body
+whole-frame [] h = absurd (omega arith)
+whole-frame (a ∷ []) h = absurd (omega arith)
+whole-frame (a ∷ b ∷ frame) h = refl
+
+pub thinned-same : (frame : List ℕ) → Sound frame → thinned (frameWidth frame) frame ≡ frame
+unfolding thinned frameWidth frameCore body frameLength
+thinned-same frame s =
+    let whole = s .whole in
+    let size : length (drop 2 frame) ≤ widthOf (getD frame 0 0) * frameGroups frame = simp length-drop (omega arith) in
+    rw (head-back (getD frame 0 0) (s .first), take-all (widthOf (getD frame 0 0) * frameGroups frame) (drop 2 frame) size) (sym (whole-frame frame (s .long)))
+
+-- of x planes the last d give the d lowest bits
+module _ (g k : ℕ) where
+  collect-above : (d : ℕ) (octets : List ℕ) (there : ℕ) → collect d g k octets there >> d ≡ there
+  unfolding collect
+  collect-above zero octets there = omega arith
+  collect-above (suc d) octets there =
+      let b : ℕ = 7 - k % 8 in
+      let c : ℕ = getD octets (k / 8) 0 in
+      bit-gone d (collect (suc d) g k octets there) there b c (collect-above d (drop g octets) (there * 2 + bit b c))
+
+  collect-shorter : (w d : ℕ) (octets : List ℕ) (there : ℕ) → collect (w + d) g k octets there >> d ≡ collect w g k octets there
+  unfolding collect
+  collect-shorter zero d octets there = rw (zero-add d) (collect-above d octets there)
+  collect-shorter (suc w) d octets there = rw (suc-add w d) (collect-shorter w d (drop g octets) (there * 2 + bit (7 - k % 8) (getD octets (k / 8) 0)))
+
+  -- the planes behind the first w are not looked at
+  collect-take : k < 8 * g → (w : ℕ) (octets : List ℕ) (there : ℕ) → collect w g k (take (w * g) octets) there ≡ collect w g k octets there
+  unfolding collect
+  collect-take within zero octets there = refl
+  collect-take within (suc w) octets there =
+      let places : suc w * g ≡ g + w * g = suc-mul w g ∙ add-comm (w * g) g in
+      let here : k / 8 < g + w * g = omega arith in
+      rw (places, drop-take g (w * g) octets, getD-take (g + w * g) octets (k / 8) 0 here)
+      (collect-take within w (drop g octets) (there * 2 + bit (7 - k % 8) (getD octets (k / 8) 0)))
+
+  pub codeword-thinned : k < 8 * g → {w x : ℕ} → w ≤ x → (octets : List ℕ) → codewordAt w g (take (w * g) octets) k ≡ codewordAt x g octets k >> (x - w)
+  unfolding codewordAt
+  codeword-thinned within {w} {x} narrow octets =
+      let places : w + (x - w) ≡ x = omega arith in
+      collect-take within w octets 0 ∙ sym (rw places at (collect-shorter w (x - w) octets 0))
+
+pub codewords-thinned : (g : ℕ) {w x : ℕ} → w ≤ x → (octets : List ℕ) → codewords w g (take (w * g) octets) ≡ map (λ c. c >> (x - w)) (codewords x g octets)
+unfolding codewords
+codewords-thinned g {w} {x} narrow octets =
+    tabulate-same (8 * g) (codewordAt w g (take (w * g) octets)) (λ k. codewordAt x g octets k >> (x - w)) (λ k within. codeword-thinned g k within narrow octets)
+    ∙ sym (map-tabulate (λ c. c >> (x - w)) (8 * g) (codewordAt x g octets))
+
+pub received-thinned : {w : ℕ} (frame : List ℕ) → w ≤ frameWidth frame → received (thinned w frame) ≡ map (λ c. c >> (frameWidth frame - w)) (received frame)
+unfolding received
+received-thinned {w} frame narrow =
+    let f = thinned-fields (lt-of-le-of-lt narrow (width-small frame)) frame in
+    rw (f .width, f .groups, f .rest) (codewords-thinned (frameGroups frame) narrow (body frame))
