@@ -39,7 +39,7 @@ module _ (s : State) (LAW width : ℕ) (samples before : List ℕ) where
         core = refl;
         run = running-none (next s LAW width) s samples;
         put = putting-none (next s LAW width) s samples (codeword s LAW width);
-        filled = filled-none before (outs (next s LAW width) (codeword s LAW width) s samples) (length samples) (outs-length (next s LAW width) (codeword s LAW width) s samples) room
+        filled = filled-none before (outs (next s LAW width) (codeword s LAW width) s samples) (length samples) (outs-length (next s LAW width) (codeword s LAW width) s samples) room;
       }
 
   pub coding-more : {i : ℕ} {t : State} {out : List ℕ} {e : Encoded} → Coding i t out → i < length samples → Pair s width
@@ -52,7 +52,7 @@ module _ (s : State) (LAW width : ℕ) (samples before : List ℕ) where
         core = encode-core t LAW width (getD samples i 0) ∙ c .core;
         run = running-more (next s LAW width) s samples 0 (c .run) more;
         put = putting-more (next s LAW width) s samples (codeword s LAW width) 0 0 (c .put) more;
-        filled = filled-more before (outs (next s LAW width) (codeword s LAW width) s samples) (length samples) 0 (c .filled) more (putting-at (next s LAW width) s samples (codeword s LAW width) 0 0 (c .put) more)
+        filled = filled-more before (outs (next s LAW width) (codeword s LAW width) s samples) (length samples) 0 (c .filled) more (putting-at (next s LAW width) s samples (codeword s LAW width) 0 0 (c .put) more);
       })
 
   pub coding-done : {i : ℕ} {t : State} {out : List ℕ} → Coding i t out → length samples ≤ i → CodesAll s LAW width samples before out t
@@ -60,5 +60,5 @@ module _ (s : State) (LAW width : ℕ) (samples before : List ℕ) where
   coding-done c all =
       record {
         state = running-done (next s LAW width) s samples (c .run) all;
-        out = filled-all before (encodedCodewords s LAW width samples) (length samples) (c .filled) all
+        out = filled-all before (encodedCodewords s LAW width samples) (length samples) (c .filled) all;
       }

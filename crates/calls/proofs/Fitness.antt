@@ -51,7 +51,7 @@ module _ (s : State) (LAW : ℕ) where
         pair = record { core = pair .1 .low; most = pair .1 .high };
         whole = count .0;
         groups = count .1;
-        space = ltb-false room (frameLength width (n / 8)) (f .0)
+        space = ltb-false room (frameLength width (n / 8)) (f .0);
       }
 
   pub encode-of : (width n room : ℕ) → LAW ≤ 1 → Codable s width n room → encodeNumber s LAW width n room ≡ 0
@@ -75,7 +75,7 @@ module _ (s : State) (LAW : ℕ) where
         range = range-says s (a .0);
         sound = sound-says frame (c .0);
         core = eqb-true (frameCore frame) (s .core) (d .0);
-        space = ltb-false room (8 * frameGroups frame) (f .0)
+        space = ltb-false room (8 * frameGroups frame) (f .0);
       }
 
   pub decode-of : (frame : List ℕ) (room : ℕ) → LAW ≤ 1 → Playable s frame room → decodeNumber s LAW frame room ≡ 0
@@ -97,7 +97,7 @@ module _ (frame : List ℕ) (w : ℕ) where
       record {
         sound = sound-says frame (a .0);
         target = record { low = ltb-false w (frameCore frame) (neither-left below above (b .0)); high = ltb-false (frameWidth frame) w (neither-right below above (b .0)) };
-        space = ltb-false room (frameLength w (frameGroups frame)) (c .0)
+        space = ltb-false room (frameLength w (frameGroups frame)) (c .0);
       }
 
   pub drop-of : (room : ℕ) → Droppable frame w room → dropNumber frame w room ≡ 0

@@ -1,3 +1,5 @@
 pub mod Fitness
 pub mod Coding
 pub mod Playing
+pub mod Answers
+pub mod Equal

@@ -29,7 +29,7 @@ use Rattle.calls.specs.Decode as calls
 use Rattle.calls.specs.Inner.{Playable, PlaysFrame}
 use Rattle.calls.proofs.Coding.{pair-kept}
 
-moved-bit : (s : State) (LAW width I : ℕ) → decodeOf s LAW width I .moved ≤ 1
+pub moved-bit : (s : State) (LAW width I : ℕ) → decodeOf s LAW width I .moved ≤ 1
 unfolding decodeOf moved
 moved-bit s LAW width I = pick-le (eqb (SD s LAW width I) (SP s LAW width I)) {a = 0} {b = 1} {n = 1} (omega arith) (omega arith)
 
@@ -60,7 +60,7 @@ module _ (s : State) (LAW : ℕ) (frame before : List ℕ) where
         run = running-none (next s LAW frame) s (received frame);
         put = putting-none (next s LAW frame) s (received frame) (byte s LAW frame);
         count = summing-none (next s LAW frame) s (received frame) (calls.moved s LAW frame);
-        filled = filled-none before (outs (next s LAW frame) (byte s LAW frame) s (received frame)) n (outs-length (next s LAW frame) (byte s LAW frame) s (received frame) ∙ received-length frame) room
+        filled = filled-none before (outs (next s LAW frame) (byte s LAW frame) s (received frame)) n (outs-length (next s LAW frame) (byte s LAW frame) s (received frame) ∙ received-length frame) room;
       }
 
   module _ {k : ℕ} {t : State} {sum : ℕ} {out : List ℕ} (p : Playing k t sum out) (more : k < n) (pair : Pair s (frameWidth frame)) where
@@ -85,7 +85,7 @@ module _ (s : State) (LAW : ℕ) (frame before : List ℕ) where
           run = running-more (next s LAW frame) s (received frame) 0 (p .run) here;
           put = putting-more (next s LAW frame) s (received frame) (byte s LAW frame) 0 0 (p .put) here;
           count = summing-more (next s LAW frame) s (received frame) (calls.moved s LAW frame) 0 (p .count) here;
-          filled = filled-more before (outs (next s LAW frame) (byte s LAW frame) s (received frame)) n 0 (p .filled) more (putting-at (next s LAW frame) s (received frame) (byte s LAW frame) 0 0 (p .put) here)
+          filled = filled-more before (outs (next s LAW frame) (byte s LAW frame) s (received frame)) n 0 (p .filled) more (putting-at (next s LAW frame) s (received frame) (byte s LAW frame) 0 0 (p .put) here);
         })
 
   pub playing-done : {k : ℕ} {t : State} {sum : ℕ} {out : List ℕ} → Playing k t sum out → n ≤ k → PlaysFrame s LAW frame before out (record { moved = sum; state = t })
@@ -95,5 +95,5 @@ module _ (s : State) (LAW : ℕ) (frame before : List ℕ) where
       record {
         state = running-done (next s LAW frame) s (received frame) (p .run) whole;
         moved = summing-done (next s LAW frame) s (received frame) (calls.moved s LAW frame) (p .count) whole;
-        out = filled-all before (decodedBytes s LAW frame) n (p .filled) all
+        out = filled-all before (decodedBytes s LAW frame) n (p .filled) all;
       }

@@ -7,23 +7,34 @@ ghost use Rattle.state.specs.InRange.{InRange};
 ghost use Rattle.sample.specs.Pair.{Pair};
 ghost use Rattle.calls.specs.Encode.{encodeNumber, Encodes};
 ghost use Rattle.calls.specs.Inner.{Codable, CodesAll, CodesFrame};
+use crate::Coded;
+use crate::Reply;
 use crate::replies::reply_of;
-use crate::{Coded, Reply};
-use frame::format::{bad_count, bad_pair};
+use frame::format::bad_count;
+use frame::format::bad_pair;
 use frame::whole::write_frame;
 use sample::encode_sample;
-use state::{State, in_range};
+use state::State;
+use state::in_range;
 
 pub fn encode(s: State, law: u8, width: u8, samples: &[u8], out: &mut [u8]) -> Coded
     ensures { λ r. ⌜ Encodes s law width (now (samples .entry)) (now (out .entry)) (now (out .exit)) r ⌝ }
 {
     let number = encode_number(s, law, width, samples.len(), out.len());
     if number != 0 {
-        return Coded { reply: reply_of(number), octets: 0, state: s };
+        return Coded {
+            reply: reply_of(number),
+            octets: 0,
+            state: s,
+        };
     }
     let octets = 2 + (width as usize) * (samples.len() / 8);
     let next = encode_into(s, law, width, samples, out);
-    Coded { reply: Reply::Done, octets, state: next }
+    Coded {
+        reply: Reply::Done,
+        octets,
+        state: next,
+    }
 }
 
 fn encode_number(s: State, law: u8, width: u8, n: usize, room: usize) -> u8

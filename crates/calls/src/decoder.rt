@@ -6,11 +6,13 @@ ghost use Rattle.calls.specs.Decode.{decodeNumber, Decodes};
 ghost use Rattle.calls.specs.Inner.{Playable, PlaysFrame};
 use crate::Heard;
 use crate::Reply;
-use crate::replies::{reply_of, wide};
+use crate::replies::reply_of;
+use crate::replies::wide;
 use frame::format::wrong_with;
 use frame::planes::codeword_at;
 use sample::decode_sample;
-use state::{State, in_range};
+use state::State;
+use state::in_range;
 
 pub struct Played {
     pub moved: usize,
@@ -22,12 +24,22 @@ pub fn decode(s: State, law: u8, frame: &[u8], out: &mut [u8]) -> Heard
 {
     let number = decode_number(s, law, frame, out.len());
     if number != 0 {
-        return Heard { reply: reply_of(number), octets: 0, moved: 0, state: s };
+        return Heard {
+            reply: reply_of(number),
+            octets: 0,
+            moved: 0,
+            state: s,
+        };
     }
     let octets = 8 * wide(frame[1]);
     let played = decode_into(s, law, frame, out);
     let next = played.state;
-    Heard { reply: Reply::Done, octets, moved: played.moved, state: next }
+    Heard {
+        reply: Reply::Done,
+        octets,
+        moved: played.moved,
+        state: next,
+    }
 }
 
 fn decode_number(s: State, law: u8, frame: &[u8], room: usize) -> u8

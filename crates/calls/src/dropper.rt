@@ -3,8 +3,10 @@ ghost use mathlib.Core.Path.{_≡_};
 ghost use Prim.Native.Nat.{_≤_, _<_};
 ghost use lib.ListN.{length};
 ghost use Rattle.calls.specs.Drop.{dropNumber, Drops};
-use crate::replies::{reply_of, wide};
-use crate::{Dropped, Reply};
+use crate::Dropped;
+use crate::Reply;
+use crate::replies::reply_of;
+use crate::replies::wide;
 use frame::format::wrong_with;
 use frame::whole::thin_frame;
 
@@ -13,11 +15,17 @@ pub fn drop_planes(frame: &[u8], width: u8, out: &mut [u8]) -> Dropped
 {
     let number = drop_number(frame, width, out.len());
     if number != 0 {
-        return Dropped { reply: reply_of(number), octets: 0 };
+        return Dropped {
+            reply: reply_of(number),
+            octets: 0,
+        };
     }
     let octets = 2 + (width as usize) * wide(frame[1]);
     thin_frame(frame, width, out);
-    Dropped { reply: Reply::Done, octets }
+    Dropped {
+        reply: Reply::Done,
+        octets,
+    }
 }
 
 fn drop_number(frame: &[u8], width: u8, room: usize) -> u8

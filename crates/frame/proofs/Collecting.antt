@@ -63,7 +63,7 @@ module _ (body : List ℕ) (x g k : ℕ) where
           base = omega arith;
           room = omega (arith, plane-more, q .room);
           rest = rw (← further, s .is) (sym next ∙ step);
-          short = rw wider (omega (arith, s .small, q .short, pow-suc 2 (x - left)))
+          short = rw wider (omega (arith, s .small, q .short, pow-suc 2 (x - left)));
         }
 
   pub collecting-done : {left at there : ℕ} → Collecting left at there → left ≤ 0 → there ≡ codewordAt x g body k

@@ -47,7 +47,7 @@ module _ (codewords : List ℕ) (at b : ℕ) where
       record {
         few = omega arith;
         rest = rw (← further, s .is) (sym (gather-next (8 - (i + 1)) b codewords (at + i) there) ∙ step);
-        short = rw up (omega (arith, s .small, g .short, pow-suc 2 i))
+        short = rw up (omega (arith, s .small, g .short, pow-suc 2 i));
       }
 
   pub gathering-done : {i there : ℕ} → Gathering i there → 8 ≤ i → there ≡ gather 8 b (drop at codewords) 0

@@ -39,7 +39,7 @@ module _ (d codewords : List ℕ) (x g : ℕ) where
           few = omega (arith, q .few);
           room = omega (arith, next-room, q .room);
           fits = q .fits;
-          front = front-more d (planes g x codewords) at g (plane g (b - 1) codewords) (planes g (b - 1) codewords) out next (plane-length g (b - 1) codewords) (omega (arith, next-room, q .room, q .fits))
+          front = front-more d (planes g x codewords) at g (plane g (b - 1) codewords) (planes g (b - 1) codewords) out next (plane-length g (b - 1) codewords) (omega (arith, next-room, q .room, q .fits));
         }
 
   pub laying-done : {at b : ℕ} {out : List ℕ} → Laying at b out → b ≤ 0 → out ≡ planes g x codewords ++ drop (x * g) d

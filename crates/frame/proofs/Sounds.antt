@@ -29,9 +29,10 @@ pub pair-says : (x y : ℕ) → badPair x y ≡ false → Within 2 4 y × Within
 unfolding badPair
 pair-says x y e =
     let abc = neither-left (ltb y 2 || ltb 4 y || ltb x y) (ltb 5 x) e in
-    let ab = neither-left (ltb y 2 || ltb 4 y) (ltb x y) abc in
-    (record { low = ltb-false y 2 (neither-left (ltb y 2) (ltb 4 y) ab); high = ltb-false 4 y (neither-right (ltb y 2) (ltb 4 y) ab) },
-    record { low = ltb-false x y (neither-right (ltb y 2 || ltb 4 y) (ltb x y) abc); high = ltb-false 5 x (neither-right (ltb y 2 || ltb 4 y || ltb x y) (ltb 5 x) e) })
+    let ab = neither-left (ltb y 2 || ltb 4 y) (ltb x y) abc in (
+      record { low = ltb-false y 2 (neither-left (ltb y 2) (ltb 4 y) ab); high = ltb-false 4 y (neither-right (ltb y 2) (ltb 4 y) ab) },
+      record { low = ltb-false x y (neither-right (ltb y 2 || ltb 4 y) (ltb x y) abc); high = ltb-false 5 x (neither-right (ltb y 2 || ltb 4 y || ltb x y) (ltb 5 x) e) },
+    )
 
 pub pair-of : (x y : ℕ) → Within 2 4 y → Within y 5 x → badPair x y ≡ false
 unfolding badPair
@@ -88,5 +89,5 @@ module _ (frame : List ℕ) where
         core = pair .0;
         width = pair .1;
         groups = groups-say g (row2 .0);
-        whole = eqb-true (length frame) (frameLength x g) (row6 .0)
+        whole = eqb-true (length frame) (frameLength x g) (row6 .0);
       }

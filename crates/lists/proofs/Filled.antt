@@ -33,7 +33,7 @@ module _ {A : Type 0} (d s : List A) (n : ℕ) where
         within = omega arith;
         held =
             rw (add-one, f .held, drop-cons d j x there, set-at (take j s) (getD d j x) (drop (suc j) d) v j front, e, take-suc s j x here, append-snoc (take j s) (getD s j x) (drop (suc j) d));
-        size = length-set out j v ∙ f .size
+        size = length-set out j v ∙ f .size;
       }
 
   pub filled-all : {j : ℕ} {out : List A} → Filled j out → n ≤ j → out ≡ s ++ drop n d

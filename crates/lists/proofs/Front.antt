@@ -32,5 +32,5 @@ module _ {A : Type 0} (d whole : List A) where
       record {
         held = rw (joined, take-at (take at out ++ part) rest (at + n) front) (append-assoc (take at out) part left ∙ f .held);
         kept = rw (joined, drop-at (take at out ++ part) rest (at + n) front, f .kept) (drop-drop n at d);
-        size = rw joined (simp (length-append, length-take, length-drop) (omega arith))
+        size = rw joined (simp (length-append, length-take, length-drop) (omega arith));
       }

@@ -1,12 +1,11 @@
+-- `calls::coder::encode_all` meets its contract.
+-- Assumes nothing.
 use Prim.Native.Nat.{_-_}
 use native.Mathlib.Omega.{arith}
 use lib.ListN.{length}
 use Rattle.calls.proofs.Coding.{Coding, pair-kept, coding-none, coding-more, coding-done}
 use Rattle.calls.proofs.coder.encode_all.Statement.{statement}
 use Rattle.calls.proofs.coder.encode_all.Tie as tie
-use Rattle.calls.proofs.coder.encode_all.Reads as reads
-use Rattle.calls.proofs.coder.encode_all.Lts as lts
-use Rattle.sample.proofs.encode_sample.Reads as encode-sample-reads
 
 abbrev Inv-loop : tie.InvT-loop
 Inv-loop law width samples codewords₀ state₀ i₀ codewords state i = Coding state₀ law width samples codewords₀ i state codewords

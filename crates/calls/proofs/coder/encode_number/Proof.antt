@@ -1,3 +1,5 @@
+-- `calls::coder::encode_number` meets its contract.
+-- Assumes nothing.
 use borrow.Author.Needs.{needs}
 use mathlib.Core.Path.{sym, _∙_}
 use Prim.Native.Nat.{_*_, _/_, _≤_}
@@ -10,11 +12,6 @@ use Rattle.calls.specs.Reply.{badLaw}
 use Rattle.calls.specs.Encode.{encodeNumber}
 use Rattle.calls.proofs.coder.encode_number.Statement.{statement}
 use Rattle.calls.proofs.coder.encode_number.Tie as tie
-use Rattle.calls.proofs.coder.encode_number.Reads as reads
-use Rattle.calls.proofs.coder.encode_number.Lts as lts
-use Rattle.frame.proofs.format.bad_count.Reads as bad-count-reads
-use Rattle.frame.proofs.format.bad_pair.Reads as bad-pair-reads
-use Rattle.state.proofs.in_range.Reads as in-range-reads
 
 product : (c : tie.Else4) → c .before .before .before .before .before .before .before .args .width * (c .before .before .before .before .before .before .before .args .n / 8) ≤ 5 * 40
 product c =

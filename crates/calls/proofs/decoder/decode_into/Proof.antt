@@ -1,3 +1,5 @@
+-- `calls::decoder::decode_into` meets its contract.
+-- Assumes nothing.
 use mathlib.Core.Path.{_≡_, refl, sym, _∙_}
 use Prim.Native.Nat.{_*_, _-_}
 use native.Mathlib.Omega.{arith}
@@ -6,13 +8,16 @@ use denote.Ref.{now}
 use Rattle.frame.specs.Format.{widthOf}
 use Rattle.frame.specs.Read.{frameWidth, frameGroups}
 use Rattle.calls.proofs.Playing.{Playing, frame-pair, playing-none, playing-codeword, playing-more, playing-done}
+use Prim.Native.Nat.{_+_, _/_, _%_, _≤_, _<_}
+use lib.ListN.{length, getD, take, drop, length-drop}
+use Rattle.lists.proofs.Rest.{rest-lent}
+use Rattle.frame.specs.Format.{frameLength}
+use Rattle.frame.specs.Read.{body, received}
+use Rattle.frame.proofs.Received.{received-at}
+use Rattle.calls.proofs.Coding.{pair-kept}
+use Rattle.calls.proofs.Playing.{moved-bit}
 use Rattle.calls.proofs.decoder.decode_into.Statement.{statement}
 use Rattle.calls.proofs.decoder.decode_into.Tie as tie
-use Rattle.calls.proofs.decoder.decode_into.Reads as reads
-use Rattle.calls.proofs.decoder.decode_into.Lts as lts
-use Rattle.calls.proofs.replies.wide.Reads as wide-reads
-use Rattle.frame.proofs.planes.codeword_at.Reads as codeword-at-reads
-use Rattle.sample.proofs.decode_sample.Reads as decode-sample-reads
 
 abbrev Inv-loop : tie.InvT-loop
 Inv-loop law frame out₀ x g state₀ moved₀ k₀ out state moved k =
@@ -20,6 +25,28 @@ Inv-loop law frame out₀ x g state₀ moved₀ k₀ out state moved k =
 
 abbrev μ-loop : tie.MeasureT-loop
 μ-loop law frame out₀ x g state₀ moved₀ k₀ out state moved k = 8 * g - k
+
+more : (c : tie.In-loop Inv-loop μ-loop) → c .before .loop .k < 8 * frameGroups (now (c .before .before .before .before .before .before .before .args .frame))
+more c = rw (← c .before .loop .inv .1) (c .loop-test .taken)
+
+-- the planes that the header calls for are there
+planes-left : (c : tie.After-codeword-at-arg Inv-loop μ-loop)
+    → getD (now (c .before .before .before .before .before .before .before .before .args .frame)) 0 0 / 8 % 8 * c .before .before .before .wide .result ≤ length (take (length (now (c .before .before .before .before .before .before .before .before .args .frame)) - 2) (drop 2 (now (c .before .before .before .before .before .before .before .before .args .frame))))
+unfolding frameLength
+planes-left c =
+    let inv = c .before .before .loop .inv in
+    let whole = c .before .before .before .before .before .before .before .before .pre .sound .whole in
+    rw (rest-lent (now (c .before .before .before .before .before .before .before .before .args .frame)) 2, inv .0, inv .1) (simp length-drop (omega arith))
+
+codeword-is : (c : tie.After-codeword-at Inv-loop μ-loop) → c .codeword-at .result ≡ getD (received (now (c .before .before .before .before .before .before .before .before .before .args .frame))) (c .before .before .before .loop .k) 0
+unfolding body
+codeword-is c =
+    let inv = c .before .before .before .loop .inv in
+    let f = now (c .before .before .before .before .before .before .before .before .before .args .frame) in
+    c .codeword-at .ensures ∙ rw (rest-lent f 2, inv .0, inv .1) (sym (received-at f (c .before .before .before .loop .k) (more (c .before .before))))
+
+moved-few : (c : tie.After-struct-known Inv-loop μ-loop) → c .before .decode-sample .result .moved ≤ 1
+moved-few c = rw (c .before .decode-sample .ensures) (moved-bit _ _ _ _)
 
 shared-slice-read-x : tie.Need-shared-slice-read-x Inv-loop μ-loop
 shared-slice-read-x c = omega (arith, c .before .before .before .pre .sound .long)
@@ -38,37 +65,48 @@ mul-loop : tie.Need-mul-loop Inv-loop μ-loop
 mul-loop c = omega (arith, c .before .wide .ensures .1)
 
 sub-codeword-at : tie.Need-sub-codeword-at Inv-loop μ-loop
-sub-codeword-at c = ?
+sub-codeword-at c = omega (arith, c .before .before .before .before .before .before .before .pre .sound .long)
 
 part-codeword-at-start : tie.Need-part-codeword-at-start Inv-loop μ-loop
-part-codeword-at-start c = ?
+part-codeword-at-start c = omega (arith, c .before .before .before .before .before .before .before .pre .sound .long)
 
 part-codeword-at-end : tie.Need-part-codeword-at-end Inv-loop μ-loop
-part-codeword-at-end c = ?
+part-codeword-at-end c = omega arith
 
 codeword-at-requires : tie.Need-codeword-at-requires Inv-loop μ-loop
-codeword-at-requires c κs = ?
+codeword-at-requires c κs = (omega arith, omega (arith, c .before .loop-test .taken), planes-left c)
 
 decode-sample-requires : tie.Need-decode-sample-requires Inv-loop μ-loop
-decode-sample-requires c κs = ?
+decode-sample-requires c κs =
+    let inv = c .before .before .before .loop .inv in
+    let at = c .before .before .before .before .before .before .before .before .before in
+    let pair = frame-pair _ _ (at .pre .sound) (at .pre .core) in
+    (inv .2 .range, rw (inv .0) (pair-kept (inv .2 .core) pair), rw (inv .0, codeword-is c) (playing-codeword _ _ _ _ (inv .2) (more (c .before .before)) pair))
 
 slice-write-out : tie.Need-slice-write-out Inv-loop μ-loop
-slice-write-out c = ?
+slice-write-out c =
+    let inv = c .before .before .before .before .loop .inv in
+    let in-frame = more (c .before .before .before) in
+    omega (arith, inv .2 .filled .size, inv .2 .filled .room)
 
 cast-moved : tie.Need-cast-moved Inv-loop μ-loop
-cast-moved c = ?
+cast-moved c = omega (arith, moved-few c)
 
 add-moved : tie.Need-add-moved Inv-loop μ-loop
-add-moved c = ?
+add-moved c = omega (arith, moved-few c, c .before .before .before .before .before .loop .inv .2 .few, c .before .before .before .before .loop-test .taken, c .before .before .before .before .before .before .wide .ensures .1)
 
 add-k : tie.Need-add-k Inv-loop μ-loop
-add-k c = ?
+add-k c = omega (arith, c .before .before .before .before .before .loop-test .taken, c .before .before .before .before .before .before .before .wide .ensures .1)
 
 loop-less : tie.Need-loop-less Inv-loop μ-loop
-loop-less c = ?
+loop-less c = omega (arith, c .before .before .before .before .before .loop-test .taken)
 
 loop-again : tie.Need-loop-again Inv-loop μ-loop
-loop-again c = ?
+loop-again c =
+    let inv = c .before .before .before .before .before .before .loop .inv in
+    let at = c .before .before .before .before .before .before .before .before .before .before .before .before in
+    let pair = frame-pair _ _ (at .pre .sound) (at .pre .core) in
+    (inv .0, inv .1, playing-more _ _ _ _ (inv .2) (more (c .before .before .before .before .before)) pair (c .before .before .decode-sample .ensures ∙ rw (inv .0, codeword-is (c .before .before .before))))
 
 same-length : tie.Need-same-length Inv-loop μ-loop
 same-length c = c .before .loop .inv .2 .filled .size

@@ -1,3 +1,5 @@
+-- `calls::decoder::decode_number` meets its contract.
+-- Assumes nothing.
 use borrow.Author.Needs.{needs}
 use mathlib.Core.Path.{sym, _∙_}
 use native.Mathlib.Omega.{arith}
@@ -11,11 +13,6 @@ use Rattle.calls.specs.Reply.{badLaw}
 use Rattle.calls.specs.Decode.{decodeNumber}
 use Rattle.calls.proofs.decoder.decode_number.Statement.{statement}
 use Rattle.calls.proofs.decoder.decode_number.Tie as tie
-use Rattle.calls.proofs.decoder.decode_number.Reads as reads
-use Rattle.calls.proofs.decoder.decode_number.Lts as lts
-use Rattle.calls.proofs.replies.wide.Reads as wide-reads
-use Rattle.frame.proofs.format.wrong_with.Reads as wrong-with-reads
-use Rattle.state.proofs.in_range.Reads as in-range-reads
 
 -- behind the third test nothing is wrong with the frame
 sound : (c : tie.Else3) → Sound (now (c .before .before .before .before .before .before .args .frame))

@@ -1,3 +1,5 @@
+-- `calls::dropper::drop_number` meets its contract.
+-- Assumes nothing.
 use borrow.Author.Needs.{needs}
 use mathlib.Core.Path.{sym, _∙_}
 use Prim.Native.Nat.{_*_, _≤_}
@@ -12,10 +14,6 @@ use Rattle.frame.proofs.Sounds.{sound-says}
 use Rattle.calls.specs.Drop.{badTarget, dropNumber}
 use Rattle.calls.proofs.dropper.drop_number.Statement.{statement}
 use Rattle.calls.proofs.dropper.drop_number.Tie as tie
-use Rattle.calls.proofs.dropper.drop_number.Reads as reads
-use Rattle.calls.proofs.dropper.drop_number.Lts as lts
-use Rattle.calls.proofs.replies.wide.Reads as wide-reads
-use Rattle.frame.proofs.format.wrong_with.Reads as wrong-with-reads
 
 -- behind the first test nothing is wrong with the frame
 sound : (c : tie.Else1) → Sound (now (c .before .before .before .args .frame))

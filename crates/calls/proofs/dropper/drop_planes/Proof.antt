@@ -1,42 +1,84 @@
+-- `calls::dropper::drop_planes` meets its contract.
+-- Assumes nothing.
 use borrow.Author.Needs.{needs}
+use mathlib.Core.Path.{_≡_, sym, _∙_}
+use mathlib.Core.List.{List}
+use Prim.Native.Nat.{ℕ, _*_, _≤_}
+use native.Mathlib.Nat.{mul-le-mul, mul-le-mul-right}
+use native.Mathlib.Omega.{arith}
+use lib.ListN.{length}
+use denote.Ref.{now}
+use Rattle.frame.specs.Format.{frameLength}
+use Rattle.frame.specs.Read.{frameGroups}
+use Rattle.calls.specs.Drop.{dropNumber, dropFits, dropOctets, dropOut}
+use Rattle.calls.specs.Inner.{Droppable}
+use Rattle.calls.proofs.Fitness.{drop-says}
+use Rattle.calls.proofs.Answers.{refusal, success, drop-small}
 use Rattle.calls.proofs.dropper.drop_planes.Statement.{statement}
 use Rattle.calls.proofs.dropper.drop_planes.Tie as tie
-use Rattle.calls.proofs.dropper.drop_planes.Reads as reads
-use Rattle.calls.proofs.dropper.drop_planes.Lts as lts
-use Rattle.calls.proofs.dropper.drop_number.Reads as drop-number-reads
-use Rattle.calls.proofs.replies.reply_of.Reads as reply-of-reads
-use Rattle.calls.proofs.replies.wide.Reads as wide-reads
-use Rattle.frame.proofs.whole.thin_frame.Reads as thin-frame-reads
+
+fit : (c : tie.Else1) → dropNumber (now (c .before .before .before .before .args .frame)) (c .before .before .before .before .args .width) (length (now (c .before .before .before .before .args .out))) ≡ 0
+fit c = sym (c .before .drop-number .ensures) ∙ c .if1 .left
+
+unfit : (c : tie.Then1) → dropNumber (now (c .before .before .before .before .args .frame)) (c .before .before .before .before .args .width) (length (now (c .before .before .before .before .args .out))) ≡ 0 → ⊥
+unfit c e = c .if1 .taken (c .before .drop-number .ensures ∙ e)
+
+product : (c : tie.After-wide) → c .before .before .before .before .before .before .args .width * c .wide .result ≤ 255 * 255
+product c =
+    let w : c .before .before .before .before .before .before .args .width ≤ 255 = omega (arith, c .before .before .before .before .before .before .fits .width .fits) in
+    mul-le-mul w (c .wide .ensures .1)
+
+-- a thinned frame is no longer than the frame
+thinner : {frame : List ℕ} {w room : ℕ} → Droppable frame w room → frameLength w (frameGroups frame) ≤ length frame
+unfolding frameLength
+thinner {frame} {w} k = rw (k .sound .whole) (omega (arith, mul-le-mul-right (frameGroups frame) (k .target .high)))
 
 drop-number-requires : tie.Need-drop-number-requires
 drop-number-requires c κs = search needs
 
 reply-of-requires : tie.Need-reply-of-requires
-reply-of-requires c κs = ?
+reply-of-requires c κs = rw (c .before .drop-number .ensures) (drop-small _ _ _)
 
 returns : tie.Need-returns
-returns c = ?
+unfolding dropFits dropOctets dropOut
+returns c =
+    let refused = unfit (c .before) in
+    record {
+      number = c .reply-of .ensures ∙ c .before .before .drop-number .ensures;
+      octets = refusal _ _ _ refused;
+      out = refusal _ _ _ refused;
+    }
 
 shared-slice-read-wide : tie.Need-shared-slice-read-wide
-shared-slice-read-wide c = ?
+shared-slice-read-wide c = omega (arith, drop-says _ _ _ (fit (c .before)) .sound .long)
 
 wide-requires : tie.Need-wide-requires
 wide-requires c κs = search needs
 
 mul-octets : tie.Need-mul-octets
-mul-octets c = ?
+mul-octets c = omega (arith, product c)
 
 add-octets : tie.Need-add-octets
-add-octets c = ?
+add-octets c = omega (arith, product c)
 
 thin-frame-requires : tie.Need-thin-frame-requires
-thin-frame-requires c κs = ?
+unfolding frameLength
+thin-frame-requires c κs =
+    let k = drop-says _ _ _ (fit (c .before .before .before)) in
+    (omega (arith, k .target .high, k .sound .width .high), k .sound .long, thinner k, k .space)
 
 same-length : tie.Need-same-length
 same-length c = search needs
 
 returns-2 : tie.Need-returns-2
-returns-2 c = ?
+unfolding dropFits dropOctets dropOut frameLength frameGroups
+returns-2 c =
+    let n = fit (c .before .before .before .before .before .before) in
+    record {
+      number = sym n;
+      octets = rw (c .before .before .before .before .wide .ensures .0) (success _ _ _ n);
+      out = c .before .before .thin-frame .ensures ∙ success _ _ _ n;
+    }
 
 pub drop-planes-spec : {M : Type 1} → statement M
 drop-planes-spec =

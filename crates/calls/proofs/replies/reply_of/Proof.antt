@@ -1,10 +1,10 @@
+-- `calls::replies::reply_of` meets its contract.
+-- Assumes nothing.
 use mathlib.Core.Path.{_≡_}
 use Prim.Native.Nat.{ℕ, suc, zero-le, _≤_}
 use native.Mathlib.Omega.{arith}
 use Rattle.calls.proofs.replies.reply_of.Statement.{statement}
 use Rattle.calls.proofs.replies.reply_of.Tie as tie
-use Rattle.calls.proofs.replies.reply_of.Reads as reads
-use Rattle.calls.proofs.replies.reply_of.Lts as lts
 
 -- a number that is none of the rows before is the next one at least
 past : {k n : ℕ} → (n ≡ k → ⊥) → k ≤ n → suc k ≤ n

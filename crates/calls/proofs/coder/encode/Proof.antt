@@ -1,0 +1,80 @@
+-- `calls::coder::encode` meets its contract.
+-- Assumes nothing.
+use borrow.Author.Needs.{needs}
+use mathlib.Core.Path.{_≡_, sym, _∙_}
+use Prim.Native.Nat.{_*_, _/_, _≤_}
+use native.Mathlib.Nat.{mul-le-mul}
+use native.Mathlib.Omega.{arith}
+use lib.ListN.{length}
+use denote.Ref.{now}
+use Rattle.frame.specs.Format.{frameLength}
+use Rattle.calls.specs.Encode.{encodeNumber, encodeFits, encodeOctets, encodeState, encodeOut}
+use Rattle.calls.proofs.Fitness.{encode-says}
+use Rattle.calls.proofs.Answers.{refusal, success, encode-small}
+use Rattle.calls.proofs.coder.encode.Statement.{statement}
+use Rattle.calls.proofs.coder.encode.Tie as tie
+
+fit : (c : tie.Else1) → encodeNumber (c .before .before .before .before .args .s) (c .before .before .before .before .args .law) (c .before .before .before .before .args .width) (length (now (c .before .before .before .before .args .samples))) (length (now (c .before .before .before .before .args .out))) ≡ 0
+fit c = sym (c .before .encode-number .ensures) ∙ c .if1 .left
+
+unfit : (c : tie.Then1) → encodeNumber (c .before .before .before .before .args .s) (c .before .before .before .before .args .law) (c .before .before .before .before .args .width) (length (now (c .before .before .before .before .args .samples))) (length (now (c .before .before .before .before .args .out))) ≡ 0 → ⊥
+unfit c e = c .if1 .taken (c .before .encode-number .ensures ∙ e)
+
+product : (c : tie.Else1) → c .before .before .before .before .args .width * (length (now (c .before .before .before .before .args .samples)) / 8) ≤ 5 * 40
+product c =
+    let codable = encode-says _ (c .before .before .before .before .args .law) _ _ _ (fit c) in
+    mul-le-mul (codable .pair .most) (codable .groups .high)
+
+encode-number-requires : tie.Need-encode-number-requires
+encode-number-requires c κs = search needs
+
+reply-of-requires : tie.Need-reply-of-requires
+reply-of-requires c κs = rw (c .before .encode-number .ensures) (encode-small _ _ _ _ _)
+
+returns : tie.Need-returns
+unfolding encodeFits encodeOctets encodeState encodeOut
+returns c =
+    let refused = unfit (c .before) in
+    record {
+      number = c .reply-of .ensures ∙ c .before .before .encode-number .ensures;
+      octets = refusal _ _ _ refused;
+      state = refusal _ _ _ refused;
+      out = refusal _ _ _ refused;
+    }
+
+mul-octets : tie.Need-mul-octets
+mul-octets c = omega (arith, product c)
+
+add-octets : tie.Need-add-octets
+add-octets c = omega (arith, product c)
+
+encode-into-requires : tie.Need-encode-into-requires
+encode-into-requires c κs = encode-says _ (c .before .before .before .before .before .args .law) _ _ _ (fit (c .before))
+
+same-length : tie.Need-same-length
+same-length c = search needs
+
+returns-2 : tie.Need-returns-2
+unfolding encodeFits encodeOctets encodeState encodeOut frameLength
+returns-2 c =
+    let n = fit (c .before .before .before .before) in
+    let coded = c .before .before .encode-into .ensures in
+    record {
+      number = sym n;
+      octets = success _ _ _ n;
+      state = coded .state ∙ success _ _ _ n;
+      out = coded .out ∙ success _ _ _ n;
+    }
+
+pub encode-spec : {M : Type 1} → statement M
+encode-spec =
+    tie.close
+    (tie.spec
+    encode-number-requires
+    reply-of-requires
+    returns
+    mul-octets
+    add-octets
+    encode-into-requires
+    same-length
+    returns-2)

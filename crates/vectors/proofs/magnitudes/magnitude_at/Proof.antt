@@ -1,0 +1,42 @@
+-- `vectors::magnitudes::magnitude_at` meets its contract, width by width: a magnitude of width 4 is at most 7.
+-- Assumes nothing.
+use borrow.Author.Needs.{needs}
+use mathlib.Core.Path.{_≡_}
+use native.Mathlib.Omega.{arith}
+use Rattle.vectors.proofs.magnitudes.magnitude_at.Statement.{statement}
+use Rattle.vectors.proofs.magnitudes.magnitude_at.Tie as tie
+
+spot-of-requires : tie.Need-spot-of-requires
+spot-of-requires c κs = search needs
+
+magnitude-in-requires : tie.Need-magnitude-in-requires
+magnitude-in-requires c κs = search needs
+
+mul-result : tie.Need-mul-result
+mul-result c = search needs
+
+returns : tie.Need-returns
+returns c = rw (c .if1 .taken) (omega arith)
+
+returns-2 : tie.Need-returns-2
+returns-2 c = rw (c .if2 .taken) (omega arith)
+
+returns-3 : tie.Need-returns-3
+returns-3 c = rw (c .if3 .taken) (omega arith)
+
+returns-4 : tie.Need-returns-4
+returns-4 c =
+    let narrow : c .before .before .before .before .before .args .width ≡ 2 = omega arith in
+    rw narrow (omega arith)
+
+pub magnitude-at-spec : {M : Type 1} → statement M
+magnitude-at-spec =
+    tie.close
+    (tie.spec
+    spot-of-requires
+    magnitude-in-requires
+    mul-result
+    returns
+    returns-2
+    returns-3
+    returns-4)

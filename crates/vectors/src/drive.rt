@@ -1,0 +1,172 @@
+// One run: encoder and decoder, or a decoder alone, through a sequence, after the homing sequence where there is one.
+ghost use Prim.Native.Nat.{_≤_};
+ghost use lib.ListN.{length};
+ghost use Rattle.vectors.specs.Pairs.{NinePairs};
+ghost use Rattle.vectors.specs.Ready.{Ready, Begun, Sent};
+use crate::checksum::add;
+use crate::codewords::held;
+use crate::codewords::input_at;
+use crate::inputs;
+use crate::lines::Note;
+use crate::lines::write_sample;
+use crate::runs::Kind;
+use crate::runs::Run;
+use crate::runs::law_in;
+use crate::runs::law_out;
+use crate::signs::sign_at;
+use sample::Encoded;
+use sample::decode_sample;
+use sample::encode_sample;
+use state::State;
+use state::reset;
+
+// Both ends, how many samples were counted, and the checksums of their codewords and of the decoder's octets
+pub struct Track {
+    pub encoder: State,
+    pub decoder: State,
+    pub samples: usize,
+    pub codewords: u32,
+    pub bytes: u32,
+}
+
+pub fn perform(run: Run, pcm: &[u8], dumped: bool) -> Track
+    requires { ⌜ NinePairs (run .width) (run .core) ⌝ }
+    requires { ⌜ 43856 ≤ length (now pcm) ⌝ }
+{
+    let t = started(run, pcm);
+    let law = law_in(run);
+    let kind = run.kind;
+    match kind {
+        Kind::Normal => encode_all(run, t, inputs::normal(pcm, law), dumped),
+        Kind::Overload => encode_all(run, t, inputs::overload(pcm, law), dumped),
+        Kind::Codewords => decode_all(run, t, 16384, dumped),
+        Kind::Held => decode_all(run, t, 2000, dumped),
+    }
+}
+
+// From reset, and homed where the run asks it
+fn started(run: Run, pcm: &[u8]) -> Track
+    requires { ⌜ NinePairs (run .width) (run .core) ⌝ }
+    requires { ⌜ 43856 ≤ length (now pcm) ⌝ }
+    ensures { λ r. ⌜ Ready (run .width) r ⌝ }
+{
+    let s = reset(run.core);
+    let t = uncounted(s, s);
+    if run.homed {
+        let h = encode_all(run, t, inputs::homing(pcm, law_in(run)), false);
+        let encoder = h.encoder;
+        let decoder = h.decoder;
+        return uncounted(encoder, decoder);
+    }
+    t
+}
+
+fn uncounted(encoder: State, decoder: State) -> Track
+    ensures { λ r. ⌜ Begun encoder decoder r ⌝ }
+{
+    Track {
+        encoder,
+        decoder,
+        samples: 0,
+        codewords: 0,
+        bytes: 0,
+    }
+}
+
+// A codeword goes to the decoder, and is counted. Where there is an encoder, e is what it made of its octet.
+fn step(run: Run, t: Track, e: Encoded, note: Note) -> Track
+    requires { ⌜ Ready (run .width) t ⌝ }
+    requires { ⌜ Sent (run .width) e ⌝ }
+    ensures { λ r. ⌜ Ready (run .width) r ⌝ }
+{
+    let before = t.decoder;
+    let d = decode_sample(before, law_out(run), run.width, e.codeword);
+    write_sample(note, e.codeword, d);
+    let encoder = e.state;
+    let decoder = d.state;
+    Track {
+        encoder,
+        decoder,
+        samples: t.samples,
+        codewords: add(t.codewords, e.codeword as u32),
+        bytes: add(t.bytes, d.byte as u32),
+    }
+}
+
+fn encode_all(run: Run, from: Track, octets: &[u8], dumped: bool) -> Track
+    requires { ⌜ Ready (run .width) from ⌝ }
+    ensures { λ r. ⌜ Ready (run .width) r ⌝ }
+{
+    let mut t = from;
+    let mut n = 0;
+    while n < octets.len() {
+        let input = octets[n];
+        t = step(
+            run,
+            t,
+            sent(run, t, input),
+            Note {
+                index: n,
+                coded: true,
+                input,
+                dumped,
+            },
+        );
+        n += 1;
+    }
+    t.samples = n;
+    t
+}
+
+fn sent(run: Run, t: Track, octet: u8) -> Encoded
+    requires { ⌜ Ready (run .width) t ⌝ }
+    ensures { λ r. ⌜ Sent (run .width) r ⌝ }
+{
+    let encoder = t.encoder;
+    encode_sample(encoder, law_in(run), run.width, octet)
+}
+
+fn decode_all(run: Run, from: Track, count: usize, dumped: bool) -> Track
+    requires { ⌜ Ready (run .width) from ⌝ }
+{
+    let mut t = from;
+    let mut register = 1;
+    let mut n = 0;
+    while n < count {
+        let sign = sign_at(n, register);
+        t = step(
+            run,
+            t,
+            received(run, t, n, sign.negative),
+            Note {
+                index: n,
+                coded: false,
+                input: 0,
+                dumped,
+            },
+        );
+        register = sign.register;
+        n += 1;
+    }
+    t.samples = n;
+    t
+}
+
+// A codeword that no encoder made
+fn received(run: Run, t: Track, place: usize, negative: bool) -> Encoded
+    requires { ⌜ Ready (run .width) t ⌝ }
+    ensures { λ r. ⌜ Sent (run .width) r ⌝ }
+{
+    let state = t.encoder;
+    let kind = run.kind;
+    if let Kind::Held = kind {
+        return Encoded {
+            codeword: held(run.width),
+            state,
+        };
+    }
+    Encoded {
+        codeword: input_at(run.width, place, negative),
+        state,
+    }
+}

@@ -1,0 +1,78 @@
+// The names of the sequences, made as in 004: R or H, the input, x and y of the pair, and the laws.
+ghost use Prim.Native.Nat.{_≤_};
+ghost use lib.ListN.{length};
+ghost use Rattle.vectors.specs.Pairs.{NinePairs};
+use crate::runs::Kind;
+use crate::runs::Run;
+use crate::text::blank;
+use crate::text::put_text;
+use libc::STDERR_FILENO;
+
+pub fn put_name(line: &mut [u8], run: Run) -> usize
+    requires { ⌜ NinePairs (run .width) (run .core) ⌝ }
+    requires { ⌜ 8 ≤ length (now line) ⌝ }
+    ensures { λ r. ⌜ r ≤ 8 ⌝ }
+{
+    let kind = run.kind;
+    let at = put_input(line, run.homed, kind);
+    let rest = [
+        b'0' + run.width,
+        b'0' + run.core,
+        b'_',
+        law_letter(run.laws),
+    ];
+    put_text(line, at, &rest)
+}
+
+fn put_input(line: &mut [u8], homed: bool, kind: Kind) -> usize
+    requires { ⌜ 4 ≤ length (now line) ⌝ }
+    ensures { λ r. ⌜ r ≤ 4 ⌝ }
+{
+    if let Kind::Held = kind {
+        return put_text(line, 0, b"HELD");
+    }
+    let letters = [start_letter(homed), input_letter(kind)];
+    put_text(line, 0, &letters)
+}
+
+fn start_letter(homed: bool) -> u8 {
+    if homed { b'H' } else { b'R' }
+}
+
+fn input_letter(kind: Kind) -> u8 {
+    match kind {
+        Kind::Normal => b'N',
+        Kind::Overload => b'V',
+        _ => b'I',
+    }
+}
+
+fn law_letter(laws: usize) -> u8 {
+    match laws {
+        0 => b'M',
+        1 => b'A',
+        2 => b'C',
+        _ => b'X',
+    }
+}
+
+pub fn is_named(run: Run, given: &[u8]) -> bool
+    requires { ⌜ NinePairs (run .width) (run .core) ⌝ }
+{
+    let mut line = blank();
+    let n = put_name(&mut line, run);
+    check::same(&line[0..n], given)
+}
+
+pub fn say_unknown(given: &[u8]) {
+    io::write_all(STDERR_FILENO, b"no sequence is named ");
+    io::write_all(STDERR_FILENO, given);
+    io::write_all(
+        STDERR_FILENO,
+        b": a name is R or H, N, V or I, a pair of 52 42 32 22 53 43 33 54 44, _,",
+    );
+    io::write_all(
+        STDERR_FILENO,
+        b" and M, A, C or X, but M or A after I; or HELD22_M, HELD33_M, HELD44_M\n",
+    );
+}
