@@ -1,0 +1,3 @@
+pub mod Runs
+pub mod Frames
+pub mod Demand3

@@ -1,0 +1,66 @@
+-- A stream of frames from an encoder over base stations to a decoder, made of the calls' own answers and buffers: what `encode` left in its
+-- buffer is lent to `drop_planes`, as often as there are base stations that thin it, and what the last of them left is lent to `decode`.
+-- A frame is the octets that the call reports, from the buffer's first on. Assumes nothing.
+use mathlib.Core.List.{List, [], _∷_}
+use mathlib.Core.Path.{_≡_}
+use Prim.Native.Nat.{ℕ}
+use lib.ListN.{take}
+use Rattle.state.specs.declared.State.{State}
+use Rattle.calls.specs.Encode.{encodeFits, encodeOctets, encodeState, encodeOut}
+use Rattle.calls.specs.Drop.{dropFits, dropOctets, dropOut}
+use Rattle.calls.specs.Decode.{decodeFits, decodeState}
+
+-- one base station: the width that it drops to, and its buffer
+pub record Station : Type 0 where
+  pub width : ℕ
+  pub buffer : List ℕ
+
+-- one frame's way: the encoder's law, width, samples and buffer; the base stations; the decoder's law and buffer
+pub record Way : Type 0 where
+  pub law : ℕ
+  pub width : ℕ
+  pub samples : List ℕ
+  pub buffer : List ℕ
+  pub stations : List Station
+  pub law′ : ℕ
+  pub buffer′ : List ℕ
+
+module _ (s : State) (w : Way) where
+  -- the frame that the encoder wrote, and its next state
+  unfoldable pub written : List ℕ
+  written = take (encodeOctets s (w .law) (w .width) (w .samples) (w .buffer)) (encodeOut s (w .law) (w .width) (w .samples) (w .buffer))
+
+  unfoldable pub encoderAfter : State
+  encoderAfter = encodeState s (w .law) (w .width) (w .samples) (w .buffer)
+
+-- the frame that one base station passes on, and the frame behind all of them
+unfoldable pub passedOn : List ℕ → Station → List ℕ
+passedOn frame b = take (dropOctets frame (b .width) (b .buffer)) (dropOut frame (b .width) (b .buffer))
+
+unfoldable pub arrived : List ℕ → List Station → List ℕ
+arrived frame [] = frame
+arrived frame (b ∷ bs) = arrived (passedOn frame b) bs
+
+-- no base station's call is refused
+abbrev pub Passed : List ℕ → List Station → Type 0
+Passed frame [] = Unit
+Passed frame (b ∷ bs) = (dropFits frame (b .width) (b .buffer) ≡ 0) × Passed (passedOn frame b) bs
+
+-- the decoder's next state, from its state t, where the encoder's is s
+unfoldable pub decoderAfter : State → State → Way → State
+decoderAfter s t w = decodeState t (w .law′) (arrived (written s w) (w .stations)) (w .buffer′)
+
+-- no call on the way is refused
+pub record Unrefused (s t : State) (w : Way) : Type 0 where
+  pub encodes : encodeFits s (w .law) (w .width) (w .samples) (w .buffer) ≡ 0
+  pub drops : Passed (written s w) (w .stations)
+  pub decodes : decodeFits t (w .law′) (arrived (written s w) (w .stations)) (w .buffer′) ≡ 0
+
+-- along a list of frames, one after the other: no call is refused; and the states are equal after every frame
+abbrev pub AllUnrefused : State → State → List Way → Type 0
+AllUnrefused s t [] = Unit
+AllUnrefused s t (w ∷ ws) = Unrefused s t w × AllUnrefused (encoderAfter s w) (decoderAfter s t w) ws
+
+abbrev pub EqualThroughout : State → State → List Way → Type 0
+EqualThroughout s t [] = Unit
+EqualThroughout s t (w ∷ ws) = (decoderAfter s t w ≡ encoderAfter s w) × EqualThroughout (encoderAfter s w) (decoderAfter s t w) ws
