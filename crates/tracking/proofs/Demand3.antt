@@ -27,11 +27,8 @@ use Rattle.calls.specs.Decode.{decodeFits, decodedState, decodeState}
 use Rattle.calls.specs.Inner.{Codable}
 use Rattle.calls.proofs.Answers.{codewords-length}
 use Rattle.tracking.specs.Stream.{Station, Way, written, encoderAfter, arrived, Passed, decoderAfter, Unrefused, AllUnrefused, EqualThroughout}
-use Rattle.tracking.proofs.Runs.{coding, coded, hearing, thin, states-track, codewords-short}
+use Rattle.tracking.proofs.Runs.{coding, coded, hearing, thin, same-run, states-track, codewords-short}
 use Rattle.tracking.proofs.Frames.{codable, written-is, encoder-is, finally, Arrives, arrives}
-
-same-run : (LAW′ : ℕ) (s : State) {x v : ℕ} {is js : List ℕ} → x ≡ v → is ≡ js → last (hearing LAW′ x) s is ≡ last (hearing LAW′ v) s js
-same-run LAW′ s e f = rw (e, f)
 
 -- the frame of a run of samples that encode takes: it is sound, and reads back as the run's codewords
 module _ (s : State) (LAW w : ℕ) (xs : List ℕ) (room : ℕ) (k : Codable s w (length xs) room) where
@@ -76,7 +73,7 @@ module _ (s : State) (LAW w : ℕ) (xs : List ℕ) (room : ℕ) (k : Codable s w
       let f = encodedFrame s LAW w xs in
       let width : frameWidth (thinned v f) ≡ v = thinned-fields v8 f .width in
       let heard : received (thinned v f) ≡ map (thin w v) (outs (coding LAW w) (coded LAW w) s xs) =
-          received-thinned f (rw frame-width (target .high)) ∙ rw (frame-width, frame-received) in
+      received-thinned f (rw frame-width (target .high)) ∙ rw (frame-width, frame-received) in
       let pv : Pair s v = record { core = target .low; most = omega (arith, target .high, k .pair .most) } in
       same-run LAW′ s width heard ∙ states-track LAW v w (target .high) LAW′ s (k .range) pv (k .pair) xs
 

@@ -37,7 +37,7 @@ module _ (s : State) (w : Way) (fits : encodeFits s (w .law) (w .width) (w .samp
   written-is =
       let cws = encodedCodewords s (w .law) (w .width) (w .samples) in
       let size : length (frameOf (w .width) (s .core) cws) ≡ frameLength (w .width) (length (w .samples) / 8) =
-          frame-length (w .width) (s .core) cws ∙ rw (codewords-length s (w .law) (w .width) (w .samples)) in
+      frame-length (w .width) (s .core) cws ∙ rw (codewords-length s (w .law) (w .width) (w .samples)) in
       rw (eq-eqb _ _ fits) (take-at (frameOf (w .width) (s .core) cws) (drop (frameLength (w .width) (length (w .samples) / 8)) (w .buffer)) (frameLength (w .width) (length (w .samples) / 8)) size)
 
   pub encoder-is : encoderAfter s w ≡ encodedState s (w .law) (w .width) (w .samples)
@@ -79,5 +79,5 @@ arrives frame (b ∷ bs) sound p =
     let width = rw (fields .width, fields .core) at (rest .width) in
     record {
       is = rw on (rest .is ∙ rw (fields .width) (thinned-thinned (width .high) small frame));
-      width = record { low = width .low; high = omega (arith, width .high, k .target .high) }
+      width = record { low = width .low; high = omega (arith, width .high, k .target .high) };
     }

@@ -1,3 +1,6 @@
 pub mod Runs
 pub mod Frames
 pub mod Demand3
+pub mod Narrower
+pub mod Observer
+pub mod Fit

@@ -29,6 +29,9 @@ hearing LAW v t I = decodeOf t LAW v I .state
 abbrev pub thin : ℕ → ℕ → ℕ → ℕ
 thin w v I = I >> (w - v)
 
+pub same-run : (LAW : ℕ) (s : State) {x y : ℕ} {is js : List ℕ} → x ≡ y → is ≡ js → last (hearing LAW x) s is ≡ last (hearing LAW y) s js
+same-run LAW s e f = rw (e, f)
+
 module _ (LAW v w : ℕ) (narrow : v ≤ w) where
   pub codewords-thinned : (s : State) → InRange s → Pair s v → Pair s w → (xs : List ℕ)
       → outs (coding LAW v) (coded LAW v) s xs ≡ map (thin w v) (outs (coding LAW w) (coded LAW w) s xs)
@@ -68,3 +71,8 @@ pub run-in-range : (LAW w : ℕ) (s : State) → InRange s → Pair s w → (xs 
 unfolding last
 run-in-range LAW w s i p [] = i
 run-in-range LAW w s i p (x ∷ xs) = run-in-range LAW w (coding LAW w s x) (encode-in-range s i LAW w p x) (pair-kept (encode-core s LAW w x) p) xs
+
+pub run-core : (LAW w : ℕ) (s : State) (xs : List ℕ) → last (coding LAW w) s xs .core ≡ s .core
+unfolding last
+run-core LAW w s [] = refl
+run-core LAW w s (x ∷ xs) = run-core LAW w (coding LAW w s x) xs ∙ encode-core s LAW w x

@@ -3,9 +3,11 @@
 -- A frame is the octets that the call reports, from the buffer's first on. Assumes nothing.
 use mathlib.Core.List.{List, [], _∷_}
 use mathlib.Core.Path.{_≡_}
-use Prim.Native.Nat.{ℕ}
-use lib.ListN.{take}
+use Prim.Native.Nat.{ℕ, _*_, _/_, _≤_}
+use lib.ListN.{length, take}
+use Rattle.words.specs.Within.{Within}
 use Rattle.state.specs.declared.State.{State}
+use Rattle.frame.specs.Format.{group, mostGroups, frameLength}
 use Rattle.calls.specs.Encode.{encodeFits, encodeOctets, encodeState, encodeOut}
 use Rattle.calls.specs.Drop.{dropFits, dropOctets, dropOut}
 use Rattle.calls.specs.Decode.{decodeFits, decodeState}
@@ -64,3 +66,23 @@ AllUnrefused s t (w ∷ ws) = Unrefused s t w × AllUnrefused (encoderAfter s w)
 abbrev pub EqualThroughout : State → State → List Way → Type 0
 EqualThroughout s t [] = Unit
 EqualThroughout s t (w ∷ ws) = (decoderAfter s t w ≡ encoderAfter s w) × EqualThroughout (encoderAfter s w) (decoderAfter s t w) ws
+
+-- fit inputs, whatever the state: laws that there are, one of the nine pairs, whole groups, each station's width from the core to what
+-- reached it, and buffers that are long enough
+abbrev pub Downhill : ℕ → ℕ → ℕ → List Station → Type 0
+Downhill core g x [] = Unit
+Downhill core g x (b ∷ bs) = Within core x (b .width) × (frameLength (b .width) g ≤ length (b .buffer)) × Downhill core g (b .width) bs
+
+pub record Speakable (core : ℕ) (w : Way) : Type 0 where
+  pub law : w .law ≤ 1
+  pub pair : Within core 5 (w .width)
+  pub whole : length (w .samples) / group * group ≡ length (w .samples)
+  pub groups : Within 1 mostGroups (length (w .samples) / group)
+  pub room : frameLength (w .width) (length (w .samples) / group) ≤ length (w .buffer)
+  pub stations : Downhill core (length (w .samples) / group) (w .width) (w .stations)
+  pub law′ : w .law′ ≤ 1
+  pub room′ : length (w .samples) ≤ length (w .buffer′)
+
+abbrev pub AllSpeakable : ℕ → List Way → Type 0
+AllSpeakable core [] = Unit
+AllSpeakable core (w ∷ ws) = Speakable core w × AllSpeakable core ws

@@ -1,0 +1,47 @@
+-- What an observer at the far end gets: the state after a frame depends on the frame's core planes alone. Two frames that agree on them move
+-- a decoder to the same state, whatever their enhancement planes say and whichever law it speaks.
+-- Assumes nothing.
+use mathlib.Core.List.{List, [], _∷_, map}
+use mathlib.Core.Path.{_≡_, refl, sym, ap, _∙_}
+use Prim.Native.Nat.{ℕ, _-_, _≤_, _<_}
+use native.Mathlib.Omega.{arith}
+use Rattle.words.specs.Notation.{_>>_}
+use Rattle.words.specs.Within.{Within}
+use Rattle.lists.specs.Run.{last}
+use Rattle.state.specs.declared.State.{State}
+use Rattle.sample.specs.Pair.{Ic}
+use Rattle.sample.proofs.Cores.{core-of-thinned}
+use Rattle.sample.proofs.Tracks.{decode-by-core, decode-core}
+use Rattle.frame.specs.Read.{frameWidth, frameCore, received, thinned}
+use Rattle.frame.specs.Sound.{Sound}
+use Rattle.frame.proofs.Fields.{thinned-fields}
+use Rattle.frame.proofs.Thinning.{received-thinned}
+use Rattle.calls.specs.Decode.{decodedState}
+use Rattle.tracking.proofs.Runs.{hearing, thin, same-run}
+
+-- a run over codewords, and over the same codewords thinned to the core
+by-core : (LAW LAW′ x y : ℕ) (s : State) → s .core ≡ y → y ≤ x → (cws : List ℕ)
+    → last (hearing LAW x) s cws ≡ last (hearing LAW′ y) s (map (thin x y) cws)
+unfolding last
+by-core LAW LAW′ x y s core narrow [] = refl
+by-core LAW LAW′ x y s core narrow (c ∷ cs) =
+    let low : s .core ≤ y = omega arith in
+    let step : hearing LAW x s c ≡ hearing LAW′ y s (thin x y c) = decode-by-core s LAW LAW′ x y c (thin x y c) (sym (core-of-thinned s y x c low narrow)) in
+    by-core LAW LAW′ x y (hearing LAW x s c) (decode-core s LAW x c ∙ core) narrow cs
+    ∙ ap (λ (t : State). last (hearing LAW′ y) t (map (thin x y) cs)) step
+
+-- decoding a frame, and decoding its core planes alone, end in one state
+pub decoded-by-core-planes : (s : State) (LAW LAW′ : ℕ) (frame : List ℕ) → Sound frame → frameCore frame ≡ s .core
+    → decodedState s LAW frame ≡ decodedState s LAW′ (thinned (frameCore frame) frame)
+unfolding decodedState
+decoded-by-core-planes s LAW LAW′ frame sound core =
+    let y = frameCore frame in
+    let y8 : y < 8 = omega (arith, sound .core .high) in
+    by-core LAW LAW′ (frameWidth frame) y s (sym core) (sound .width .low) (received frame)
+    ∙ same-run LAW′ s (sym (thinned-fields y8 frame .width)) (sym (received-thinned frame (sound .width .low)))
+
+-- two frames with the same core planes
+pub same-core-planes : (s : State) (LAW LAW′ : ℕ) (f f′ : List ℕ) → Sound f → Sound f′ → frameCore f ≡ s .core → frameCore f′ ≡ s .core
+    → thinned (frameCore f) f ≡ thinned (frameCore f′) f′ → decodedState s LAW f ≡ decodedState s LAW′ f′
+same-core-planes s LAW LAW′ f f′ sound sound′ core core′ same =
+    decoded-by-core-planes s LAW LAW′ f sound core ∙ ap (decodedState s LAW′) same ∙ sym (decoded-by-core-planes s LAW′ LAW′ f′ sound′ core′)
