@@ -6,9 +6,9 @@ ghost use Rattle.calls.specs.Drop.{dropNumber, Drops};
 use crate::Dropped;
 use crate::Reply;
 use crate::replies::reply_of;
-use crate::replies::wide;
 use frame::format::wrong_with;
 use frame::whole::thin_frame;
+use frame::whole::wide;
 
 pub fn drop_planes(frame: &[u8], width: u8, out: &mut [u8]) -> Dropped
     ensures { λ r. ⌜ Drops (now (frame .entry)) width (now (out .entry)) (now (out .exit)) r ⌝ }

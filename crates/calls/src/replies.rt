@@ -39,10 +39,3 @@ pub fn number_of(reply: Reply) -> u8
         Reply::Law => 9,
     }
 }
-
-// An octet as a length
-pub fn wide(octet: u8) -> usize
-    ensures { λ r. ⌜ (r ≡ octet) × (r ≤ 255) ⌝ }
-{
-    octet as usize
-}

@@ -27,8 +27,9 @@ pub fn thin_frame(frame: &[u8], w: u8, out: &mut [u8])
     out[0] = header(w, frame[0] % 8);
 }
 
-fn wide(octet: u8) -> usize
-    ensures { λ r. ⌜ (r ≡ octet) × (r < 256) ⌝ }
+// An octet as a length
+pub fn wide(octet: u8) -> usize
+    ensures { λ r. ⌜ (r ≡ octet) × (r ≤ 255) ⌝ }
 {
     octet as usize
 }

@@ -38,6 +38,6 @@ module _ (s : State) (LAW v w : ℕ) (xs : List ℕ) (range : InRange s) (pv : P
   unfolding encodedState
   narrower-state = states-same LAW v w narrow s range pv pw xs
 
-  -- at one state, every difference that a codeword allows is also allowed by its thinned form
-  pub allowed-at-state : (I D : ℕ) → Allows w (Y s) I D → Allows v (Y s) (I >> (w - v)) D
-  allowed-at-state I D a = allowed-thinned (Y s) I D (pair-width s range pv) (pair-width s range pw) narrow a
+-- at one state, every difference that a codeword allows is also allowed by its thinned form
+pub allowed-at-state : (s : State) (v w : ℕ) → InRange s → Pair s v → Pair s w → v ≤ w → (I D : ℕ) → Allows w (Y s) I D → Allows v (Y s) (I >> (w - v)) D
+allowed-at-state s v w range pv pw narrow I D a = allowed-thinned (Y s) I D (pair-width s range pv) (pair-width s range pw) narrow a

@@ -16,7 +16,11 @@ use Rattle.frame.specs.Read.{frameWidth, frameCore, received, thinned}
 use Rattle.frame.specs.Sound.{Sound}
 use Rattle.frame.proofs.Fields.{thinned-fields}
 use Rattle.frame.proofs.Thinning.{received-thinned}
-use Rattle.calls.specs.Decode.{decodedState}
+use lib.ListN.{length}
+use borrow.Author.Tests.{eq-eqb}
+use Rattle.calls.specs.Decode.{decodedState, decodeFits, decodeState}
+use Rattle.calls.proofs.Fitness.{decode-says}
+use Rattle.tracking.specs.Stream.{Twin, Agree, AllAgree, TwinsEqual}
 use Rattle.tracking.proofs.Runs.{hearing, thin, same-run}
 
 -- a run over codewords, and over the same codewords thinned to the core
@@ -45,3 +49,19 @@ pub same-core-planes : (s : State) (LAW LAW′ : ℕ) (f f′ : List ℕ) → So
     → thinned (frameCore f) f ≡ thinned (frameCore f′) f′ → decodedState s LAW f ≡ decodedState s LAW′ f′
 same-core-planes s LAW LAW′ f f′ sound sound′ core core′ same =
     decoded-by-core-planes s LAW LAW′ f sound core ∙ ap (decodedState s LAW′) same ∙ sym (decoded-by-core-planes s LAW′ LAW′ f′ sound′ core′)
+
+-- of the calls: one frame each, from one state
+twins-step : (s : State) (x : Twin) → Agree s s x → decodeState s (x .law) (x .frame) (x .buffer) ≡ decodeState s (x .law′) (x .frame′) (x .buffer′)
+unfolding decodeState decodeFits
+twins-step s x a =
+    let p = decode-says s (x .law) (x .frame) (length (x .buffer)) (a .decodes) in
+    let q = decode-says s (x .law′) (x .frame′) (length (x .buffer′)) (a .decodes′) in
+    rw (eq-eqb _ _ (a .decodes), eq-eqb _ _ (a .decodes′))
+    (same-core-planes s (x .law) (x .law′) (x .frame) (x .frame′) (p .sound) (q .sound) (p .core) (q .core) (a .core-planes))
+
+-- two streams that agree on the core planes have equal states after every frame
+pub twins-equal : (s : State) (xs : List Twin) → AllAgree s s xs → TwinsEqual s s xs
+twins-equal s [] a = tt
+twins-equal s (x ∷ xs) (a, more) =
+    let same : decodeState s (x .law) (x .frame) (x .buffer) ≡ decodeState s (x .law′) (x .frame′) (x .buffer′) = twins-step s x a in
+    (same, rw (← same) (twins-equal (decodeState s (x .law) (x .frame) (x .buffer)) xs (rw (← same) at more)))

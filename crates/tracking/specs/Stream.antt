@@ -8,6 +8,7 @@ use lib.ListN.{length, take}
 use Rattle.words.specs.Within.{Within}
 use Rattle.state.specs.declared.State.{State}
 use Rattle.frame.specs.Format.{group, mostGroups, frameLength}
+use Rattle.frame.specs.Read.{frameCore, thinned}
 use Rattle.calls.specs.Encode.{encodeFits, encodeOctets, encodeState, encodeOut}
 use Rattle.calls.specs.Drop.{dropFits, dropOctets, dropOut}
 use Rattle.calls.specs.Decode.{decodeFits, decodeState}
@@ -86,3 +87,28 @@ pub record Speakable (core : ℕ) (w : Way) : Type 0 where
 abbrev pub AllSpeakable : ℕ → List Way → Type 0
 AllSpeakable core [] = Unit
 AllSpeakable core (w ∷ ws) = Speakable core w × AllSpeakable core ws
+
+-- two frames, each lent to a decoder of its own with its law and its buffer
+pub record Twin : Type 0 where
+  pub law : ℕ
+  pub frame : List ℕ
+  pub buffer : List ℕ
+  pub law′ : ℕ
+  pub frame′ : List ℕ
+  pub buffer′ : List ℕ
+
+-- neither decoder refuses, and the frames have the same core planes
+pub record Agree (s t : State) (x : Twin) : Type 0 where
+  pub decodes : decodeFits s (x .law) (x .frame) (x .buffer) ≡ 0
+  pub decodes′ : decodeFits t (x .law′) (x .frame′) (x .buffer′) ≡ 0
+  pub core-planes : thinned (frameCore (x .frame)) (x .frame) ≡ thinned (frameCore (x .frame′)) (x .frame′)
+
+abbrev pub AllAgree : State → State → List Twin → Type 0
+AllAgree s t [] = Unit
+AllAgree s t (x ∷ xs) = Agree s t x × AllAgree (decodeState s (x .law) (x .frame) (x .buffer)) (decodeState t (x .law′) (x .frame′) (x .buffer′)) xs
+
+abbrev pub TwinsEqual : State → State → List Twin → Type 0
+TwinsEqual s t [] = Unit
+TwinsEqual s t (x ∷ xs) =
+    (decodeState s (x .law) (x .frame) (x .buffer) ≡ decodeState t (x .law′) (x .frame′) (x .buffer′))
+    × TwinsEqual (decodeState s (x .law) (x .frame) (x .buffer)) (decodeState t (x .law′) (x .frame′) (x .buffer′)) xs

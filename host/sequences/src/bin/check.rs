@@ -1,10 +1,9 @@
-//! Compares the second codec's lines with the proved codec's, where that has printed them.
+//! Compares the second codec's lines with the proved codec's.
 
 use sequences::compare::{first_difference, Difference};
 use sequences::files::{in_repository, Inputs};
 use sequences::lines::lines;
 use std::fs::read_to_string;
-use std::io::ErrorKind;
 use std::process::ExitCode;
 
 /// From the root of the repository.
@@ -15,10 +14,6 @@ const DUMP: &str = "cargo run --release --offline --quiet --manifest-path host/C
 fn main() -> ExitCode {
     match read_to_string(in_repository(PROVED)) {
         Ok(text) => compared(&text),
-        Err(why) if why.kind() == ErrorKind::NotFound => {
-            println!("sequences: {PROVED} does not exist yet, so nothing was compared with it");
-            ExitCode::SUCCESS
-        }
         Err(why) => failed(&format!("{PROVED}: {why}")),
     }
 }
