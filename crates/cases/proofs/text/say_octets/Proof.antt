@@ -1,0 +1,48 @@
+-- `cases::text::say_octets` is safe and ends. The loop's invariant: the place is within the octets. The measure is what is left of the octets.
+-- Assumes nothing.
+use Prim.Native.Nat.{_-_, _≤_}
+use native.Mathlib.Omega.{arith}
+use lib.ListN.{length}
+use Rattle.cases.proofs.text.say_octets.Statement.{statement}
+use Rattle.cases.proofs.text.say_octets.Tie as tie
+
+abbrev Inv-loop : tie.InvT-loop
+Inv-loop octets i₀ i = i ≤ length octets
+
+abbrev μ-loop : tie.MeasureT-loop
+μ-loop octets i₀ i = length octets - i
+
+loop-holds : tie.Need-loop-holds Inv-loop μ-loop
+loop-holds c = omega arith
+
+shared-slice-read-say-spaced : tie.Need-shared-slice-read-say-spaced Inv-loop μ-loop
+shared-slice-read-say-spaced c = omega arith
+
+say-spaced-requires : tie.Need-say-spaced-requires Inv-loop μ-loop
+say-spaced-requires c κs = tt
+
+add-i : tie.Need-add-i Inv-loop μ-loop
+add-i c = omega arith
+
+loop-less : tie.Need-loop-less Inv-loop μ-loop
+loop-less c = omega arith
+
+loop-again : tie.Need-loop-again Inv-loop μ-loop
+loop-again c = omega arith
+
+returns : tie.Need-returns Inv-loop μ-loop
+returns c = tt
+
+pub say-octets-spec : {M : Type 1} → statement M
+say-octets-spec =
+    tie.close
+    (tie.spec
+    Inv-loop
+    μ-loop
+    loop-holds
+    shared-slice-read-say-spaced
+    say-spaced-requires
+    add-i
+    loop-less
+    loop-again
+    returns)
