@@ -1,0 +1,186 @@
+// encode LAW WIDTH CORE [SAMPLES]: G.711 octets in, frames out. The last frame may be shorter than the others.
+ghost use Rattle.io.specs.Counts.{Counts};
+ghost use Prim.Native.Nat.{_≤_};
+ghost use lib.ListN.{length};
+use crate::report::refuse;
+use crate::report::say_filled;
+use crate::report::show_state;
+use crate::stream::passed;
+use crate::stream::read_part;
+use crate::stream::write_octets;
+use crate::text::least;
+use crate::text::within;
+use crate::words::Number;
+use crate::words::are_words;
+use crate::words::is_there;
+use crate::words::law_at;
+use crate::words::number_at;
+use crate::words::octet_of;
+use calls::coder::encode;
+use calls::replies::number_of;
+use calls::starter::reset;
+use state::State;
+
+// What the words ask
+pub struct Plan {
+    pub verbose: bool,
+    pub law: u8,
+    pub width: u8,
+    pub samples: usize,
+}
+
+// Whether there may be a next frame, where it begins in the stream, and the state that it meets
+pub struct Turn {
+    pub more: bool,
+    pub octet: u64,
+    pub state: State,
+}
+
+pub fn run(verbose: bool) {
+    if !are_words(verbose, 4, 6) {
+        return;
+    }
+    let law = law_at(verbose, 2);
+    if 1 < law {
+        return;
+    }
+    let width = number_at(verbose, 3);
+    if !width.good {
+        return;
+    }
+    let core = number_at(verbose, 4);
+    if !core.good {
+        return;
+    }
+    let samples = samples_at(verbose);
+    if !samples.good {
+        return;
+    }
+    let plan = Plan {
+        verbose,
+        law,
+        width: octet_of(width.value),
+        samples: samples.value,
+    };
+    begin(plan, octet_of(core.value));
+}
+
+fn samples_at(verbose: bool) -> Number {
+    if is_there(verbose, 5) {
+        return number_at(verbose, 5);
+    }
+    Number {
+        good: true,
+        value: 160,
+    }
+}
+
+// What the calls refuse of the words alone is said before anything is read, by a frame that is not sent.
+fn begin(plan: Plan, core: u8) {
+    let started = reset(core);
+    let state = started.state;
+    let reply = started.reply;
+    let wrong = number_of(reply);
+    if wrong != 0 {
+        refuse(0, 0, wrong);
+        return;
+    }
+    let number = tried(plan, state);
+    if number != 0 {
+        refuse(0, 0, number);
+        return;
+    }
+    let turn = Turn {
+        more: true,
+        octet: 0,
+        state,
+    };
+    encode_all(plan, turn);
+}
+
+fn tried(plan: Plan, s: State) -> u8 {
+    let samples = io::buffer();
+    let n = within(plan.samples, &samples);
+    let mut out = io::buffer();
+    let coded = encode(s, plan.law, plan.width, &samples[..n], &mut out);
+    let reply = coded.reply;
+    number_of(reply)
+}
+
+// A proved loop has to end, and nothing says that a stream does: it ends before a frame whose index no run reaches.
+fn encode_all(plan: Plan, from: Turn) {
+    let mut turn = from;
+    let mut frame = 0;
+    while frame < u64::MAX && turn.more {
+        turn = encode_next(plan, turn, frame);
+        frame += 1;
+    }
+}
+
+fn encode_next(plan: Plan, turn: Turn, frame: u64) -> Turn {
+    let mut samples = io::buffer();
+    let got = read_part(&mut samples, 0, plan.samples);
+    if got == 0 {
+        return ended(turn);
+    }
+    let lacking = (8 - got % 8) % 8;
+    if 0 < lacking {
+        say_filled(frame, turn.octet, lacking);
+    }
+    let n = fill(&mut samples, got, lacking, silence(plan.law));
+    send(plan, turn, frame, &samples[..n])
+}
+
+fn ended(turn: Turn) -> Turn {
+    let state = turn.state;
+    Turn {
+        more: false,
+        octet: turn.octet,
+        state,
+    }
+}
+
+fn silence(law: u8) -> u8 {
+    if law == 0 {
+        return 0xff;
+    }
+    0xd5
+}
+
+// So many octets of silence from index `from` on
+fn fill(samples: &mut [u8], from: usize, count: usize, octet: u8) -> usize
+    ensures { λ r. ⌜ Counts r (now (samples .exit)) ⌝ }
+{
+    let to = within(from, samples);
+    let n = least(count, samples.len() - to);
+    let mut i = 0;
+    while i < n {
+        samples[to + i] = octet;
+        i += 1;
+    }
+    to + i
+}
+
+// The frame is written and the state goes on, or the tool stops
+fn send(plan: Plan, turn: Turn, frame: u64, samples: &[u8]) -> Turn {
+    let state = turn.state;
+    let mut out = io::buffer();
+    let coded = encode(state, plan.law, plan.width, samples, &mut out);
+    let reply = coded.reply;
+    let number = number_of(reply);
+    if number != 0 {
+        refuse(frame, turn.octet, number);
+        return ended(turn);
+    }
+    let n = within(coded.octets, &out);
+    let more = write_octets(&out[..n]);
+    let next = coded.state;
+    if plan.verbose {
+        show_state(frame, next);
+    }
+    Turn {
+        more,
+        octet: passed(turn.octet, samples),
+        state: next,
+    }
+}

@@ -1,0 +1,92 @@
+// Standard input in whole pieces: a count of octets, or a frame as long as its header says. Where a read fails it is
+// said, and what was read stands as if the stream had ended.
+ghost use Rattle.io.specs.Counts.{Counts};
+ghost use Prim.Native.Nat.{_≤_};
+ghost use lib.ListN.{length};
+use crate::text::least;
+use crate::text::within;
+use frame::format::bad_groups;
+use frame::format::bad_pair;
+use frame::format::wrong_with;
+use libc::STDIN_FILENO;
+use libc::STDOUT_FILENO;
+
+// After a frame that leaves no state: whether there may be a next one, and where it begins in the stream
+pub struct Pass {
+    pub more: bool,
+    pub octet: u64,
+}
+
+// Reads octets from index `from` on up to index `to`, and answers the index up to which there are some
+pub fn read_part(buf: &mut [u8], from: usize, to: usize) -> usize
+    ensures { λ r. ⌜ Counts r (now (buf .exit)) ⌝ }
+{
+    let end = within(to, buf);
+    let mut done = least(from, end);
+    while done < end {
+        let more = read_once(&mut buf[done..end]);
+        if more == 0 {
+            return done;
+        }
+        done += more;
+    }
+    done
+}
+
+// 0 at the end of the stream, and where the read fails, which is said
+fn read_once(part: &mut [u8]) -> usize
+    ensures { λ r. ⌜ Counts r (now (part .exit)) ⌝ }
+{
+    let got = libc::read(STDIN_FILENO, part);
+    if got < 0 {
+        os::fail(b"parchfennel: standard input");
+    }
+    io::count(got, part)
+}
+
+// A frame's octets at the start of the buffer: fewer than the header calls for where the stream ends, and none at its
+// end. Of a header that is itself wrong nothing follows: no call looks further.
+pub fn read_frame(buf: &mut [u8]) -> usize
+    ensures { λ r. ⌜ Counts r (now (buf .exit)) ⌝ }
+{
+    let head = read_part(buf, 0, 2);
+    if head < 2 {
+        return head;
+    }
+    let end = end_of(buf[0], buf[1]);
+    read_part(buf, 2, end)
+}
+
+// How long the frame is that begins with these two octets
+fn end_of(first: u8, g: u8) -> usize {
+    if first >> 6 != 1 {
+        return 2;
+    }
+    let x = (first >> 3) % 8;
+    if bad_pair(x, first % 8) | bad_groups(g) {
+        return 2;
+    }
+    2 + (x as usize) * (g as usize)
+}
+
+// Whether the stream ended inside the frame
+pub fn is_cut(frame: &[u8]) -> bool {
+    if frame.len() < 2 {
+        return true;
+    }
+    wrong_with(frame) == 6
+}
+
+// Says so where they could not be written
+pub fn write_octets(octets: &[u8]) -> bool {
+    let written = io::write_all(STDOUT_FILENO, octets);
+    if !written {
+        os::fail(b"parchfennel: standard output");
+    }
+    written
+}
+
+// The stream's octets so far and these
+pub fn passed(octet: u64, octets: &[u8]) -> u64 {
+    std::num::wrapping_add_u64(octet, octets.len() as u64)
+}
