@@ -1,0 +1,79 @@
+//! The proved tool as a command: octets in, octets out, and what it said on standard error.
+
+use std::io::Write;
+use std::process::{Command, Stdio};
+use std::thread;
+
+pub struct Tool {
+    /// The program and the words that come before the tool's own (an emulator needs some).
+    pub command: Vec<String>,
+}
+
+pub struct Output {
+    pub octets: Vec<u8>,
+    pub said: String,
+}
+
+impl Tool {
+    pub fn run(&self, words: &[&str], input: &[u8]) -> Result<Output, String> {
+        let call = words.join(" ");
+        let (program, before) = self.command.split_first().ok_or("no command given")?;
+        let mut child = Command::new(program)
+            .args(before)
+            .args(words)
+            .stdin(Stdio::piped())
+            .stdout(Stdio::piped())
+            .stderr(Stdio::piped())
+            .spawn()
+            .map_err(|error| format!("{program} cannot be started: {error}"))?;
+        let mut pipe = child.stdin.take().ok_or("no pipe to the tool")?;
+        let input = input.to_vec();
+        // A thread writes, because the tool answers before it has read everything: with one thread
+        // both sides could wait for each other on full pipes.
+        let writer = thread::spawn(move || pipe.write_all(&input));
+        let output = child
+            .wait_with_output()
+            .map_err(|error| format!("{call}: {error}"))?;
+        let written = writer.join().map_err(|_| format!("{call}: no writer"))?;
+        let said = String::from_utf8_lossy(&output.stderr).into_owned();
+        if !output.status.success() {
+            return Err(format!("{call}: {}: {}", output.status, said.trim_end()));
+        }
+        written.map_err(|error| format!("{call}: input not taken: {error}"))?;
+        Ok(Output {
+            octets: output.stdout,
+            said,
+        })
+    }
+}
+
+#[cfg(test)]
+mod tests {
+    use super::*;
+
+    fn tool(words: &[&str]) -> Tool {
+        Tool {
+            command: words.iter().map(|word| word.to_string()).collect(),
+        }
+    }
+
+    #[test]
+    fn octets_go_through() {
+        let input = vec![7; 300_000];
+        let output = tool(&["cat"]).run(&[], &input).unwrap();
+        assert_eq!(output.octets, input);
+        assert_eq!(output.said, "");
+    }
+
+    #[test]
+    fn a_refusal_is_an_error_with_its_line() {
+        let found = tool(&["sh", "-c", "cat >/dev/null; echo frame 3 >&2; exit 1"]).run(&[], b"x");
+        assert!(found.is_err_and(|line| line.contains("frame 3")));
+    }
+
+    #[test]
+    fn a_missing_program_is_an_error() {
+        assert!(tool(&["./no-such-program"]).run(&[], b"").is_err());
+        assert!(tool(&[]).run(&[], b"").is_err());
+    }
+}
