@@ -7,4 +7,3 @@ pub mod page;
 pub mod runs;
 pub mod sound;
 pub mod states;
-pub mod tool;

@@ -4,10 +4,10 @@
 use report::fault::{at_width, Drift, Faulty, CORE, WIDTH};
 use report::page::{decibels, page, title, total, Faults, Heard};
 use report::runs::{at_core, Sample, CORES};
-use report::tool::Tool;
 use std::path::{Path, PathBuf};
 use std::process::ExitCode;
 use std::{env, fs};
+use tool::Tool;
 
 fn main() -> ExitCode {
     let words: Vec<String> = env::args().skip(1).collect();

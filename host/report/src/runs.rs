@@ -2,7 +2,7 @@
 
 use crate::sound::{levels, signal_to_noise, RATE};
 use crate::states::{compare, lines, slow_scales, Agreement};
-use crate::tool::Tool;
+use tool::Tool;
 
 pub const WIDEST: u8 = 5;
 pub const CORES: [u8; 3] = [2, 3, 4];
@@ -27,7 +27,7 @@ pub struct Run {
 /// All widths at one core, from one encoding: what is thrown away later cannot reach the encoder.
 pub fn at_core(tool: &Tool, sample: &Sample, core: u8) -> Result<Vec<Run>, String> {
     let words = ["-v", "encode", "mu", "5", &core.to_string()];
-    let sent = tool.run(&words, &sample.speech)?;
+    let sent = tool.run_whole(&words, &sample.speech)?;
     let near = lines(&sent.said)?;
     (core..=WIDEST)
         .rev()
@@ -42,8 +42,8 @@ fn thinned(
     near: &[String],
     (width, core): (u8, u8),
 ) -> Result<Run, String> {
-    let thin = tool.run(&["drop", &width.to_string()], frames)?.octets;
-    let heard = tool.run(&["-v", "decode", "mu"], &thin)?;
+    let thin = dropped(tool, frames, width)?;
+    let heard = tool.run_whole(&["-v", "decode", "mu"], &thin)?;
     if heard.octets.len() != sample.speech.len() {
         let (sent, got) = (sample.speech.len(), heard.octets.len());
         return Err(format!(
@@ -63,6 +63,16 @@ fn thinned(
         near: slow_scales(near),
         far: slow_scales(&far),
     })
+}
+
+/// The proved tool has no exit status, so that a refusal shows only in what it says.
+fn dropped(tool: &Tool, frames: &[u8], width: u8) -> Result<Vec<u8>, String> {
+    let thin = tool.run_whole(&["drop", &width.to_string()], frames)?;
+    if thin.said.is_empty() {
+        Ok(thin.octets)
+    } else {
+        Err(thin.said)
+    }
 }
 
 /// Thousands of bits a second, of octets that carry that many samples.

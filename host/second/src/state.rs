@@ -50,6 +50,18 @@ impl State {
         }
     }
 
+    /// All of them in the order of the table of ranges, as they are written down.
+    pub fn numbers(&self) -> Vec<u32> {
+        let mut numbers = vec![u32::from(self.yu), self.yl];
+        let words = [self.dms, self.dml, self.ap, self.a1, self.a2];
+        let signals = [self.sr1, self.sr2];
+        let all = words.iter().chain(&self.b).chain(&self.dq).chain(&signals);
+        numbers.extend(all.map(|&word| u32::from(word)));
+        let last = [self.pk1, self.pk2, self.td, self.core];
+        numbers.extend(last.map(u32::from));
+        numbers
+    }
+
     /// One test for each row of the table of ranges; A and B may be any word.
     pub fn in_range(&self) -> bool {
         (544..=5_120).contains(&self.yu)

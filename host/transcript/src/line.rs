@@ -119,12 +119,6 @@ fn state(text: &str) -> Result<State, String> {
 }
 
 pub fn write_state(s: &State) -> String {
-    let mut numbers: Vec<u32> = vec![u32::from(s.yu), s.yl];
-    let words = [s.dms, s.dml, s.ap, s.a1, s.a2];
-    numbers.extend(words.iter().map(|&w| u32::from(w)));
-    numbers.extend(s.b.iter().chain(&s.dq).map(|&w| u32::from(w)));
-    numbers.extend([s.sr1, s.sr2].iter().map(|&w| u32::from(w)));
-    numbers.extend([s.pk1, s.pk2, s.td, s.core].iter().map(|&w| u32::from(w)));
-    let texts: Vec<String> = numbers.iter().map(u32::to_string).collect();
+    let texts: Vec<String> = s.numbers().iter().map(u32::to_string).collect();
     texts.join(",")
 }

@@ -1,0 +1,54 @@
+//! Why a run ends before its input does, as the line that says so.
+
+use crate::call::told;
+use second::replies;
+use std::io;
+
+/// A frame of the stream: its index, and the octet of the stream at which it begins.
+#[derive(Clone, Copy, Default)]
+pub struct Place {
+    pub frame: u64,
+    pub octet: u64,
+}
+
+impl Place {
+    pub fn next(self, octets: usize) -> Place {
+        Place {
+            frame: self.frame + 1,
+            octet: self.octet + octets as u64,
+        }
+    }
+
+    pub fn line(self, what: &str) -> String {
+        format!("frame {} at octet {}: {what}", self.frame, self.octet)
+    }
+}
+
+pub fn refused(place: Place, number: u8) -> String {
+    place.line(&format!("refused with {number}: {}", reason(number)))
+}
+
+pub fn cut(place: Place, octets: usize) -> String {
+    let what = format!("the stream ends inside the frame, after {octets} octets of it");
+    told(&place.line(&what))
+}
+
+pub fn broken(error: io::Error) -> String {
+    error.to_string()
+}
+
+fn reason(number: u8) -> &'static str {
+    match number {
+        replies::NO_SUCH_PAIR => "width or core not one of the nine pairs",
+        replies::BAD_SAMPLE_COUNT => {
+            "sample count not a multiple of 8 from 8 to 320, or g not 1 to 40"
+        }
+        replies::OUT_TOO_SHORT => "out buffer shorter than the result",
+        replies::STATE_OUT_OF_RANGE => "a state variable outside the table below",
+        replies::NOT_A_FRAME => "fewer than 2 octets, or edition not 01",
+        replies::WRONG_LENGTH => "length not 2 + x times g",
+        replies::OTHER_CORE => "frame's core differs from the state's",
+        replies::BAD_TARGET_WIDTH => "target width below y or above x",
+        _ => "law not 0 (mu) or 1 (A)",
+    }
+}
