@@ -1,15 +1,5 @@
-//! Compares the second codec at (2,2) with spandsp's G.726 at 16 kbit/s, where both
-//! Recommendations have the same tables: codes, decoded bytes and states, under both laws.
-//! Ends with a nonzero code at the first disagreement.
-
-#[cfg(spandsp)]
-mod agreement;
-#[cfg(spandsp)]
-mod inputs;
-#[cfg(spandsp)]
-mod spandsp;
-#[cfg(spandsp)]
-mod speech;
+//! Compares the second codec at (2,2) with spandsp's G.726 at 16 kbit/s: codes, decoded bytes and
+//! states, under both laws. Ends with a nonzero code at the first disagreement.
 
 use std::process::ExitCode;
 
@@ -24,7 +14,7 @@ fn main() -> ExitCode {
 
 #[cfg(spandsp)]
 fn main() -> ExitCode {
-    match agreement::compare_everything() {
+    match peer::agreement::compare_everything() {
         Ok(total) => {
             println!("peer: {} samples, no disagreement", total.samples);
             ExitCode::SUCCESS
