@@ -50,17 +50,27 @@ fn agreed(agreement: &Agreement) -> String {
 }
 
 pub fn page(all: &[Heard], faults: &Faults) -> String {
-    let speech: String = all.iter().map(section).collect();
+    let speech: String = all.iter().enumerate().map(section).collect();
     format!(
         "<!DOCTYPE html>\n<html lang=\"en\"><head><meta charset=\"utf-8\">\
          <meta name=\"viewport\" content=\"width=device-width, initial-scale=1\">\
          <title>Parchfennel: the demonstration</title><style>{}</style></head><body>\n\
          {}{}{}{speech}</body></html>\n",
         include_str!("style.css"),
-        include_str!("opening.html"),
+        include_str!("opening.html").replace("LINKS", &links(all)),
         table(all),
         fault_section(faults),
     )
+}
+
+/// For the one who came to listen, since the numbers come first.
+fn links(all: &[Heard]) -> String {
+    let link = |(place, heard): (usize, &Heard)| {
+        let name = title(&heard.sample.name);
+        format!("<a href=\"#sample{place}\">&ldquo;{name}&rdquo;</a>\n")
+    };
+    let samples: String = all.iter().enumerate().map(link).collect();
+    format!("<p class=\"links\">{samples}<a href=\"#fault\">the fault</a></p>\n")
 }
 
 /// All samples have the same pairs in the same order, so a row is a place in their lists.
@@ -111,11 +121,12 @@ pub fn total<'a>(all: impl Iterator<Item = &'a Agreement>) -> Agreement {
     })
 }
 
-fn section(heard: &Heard) -> String {
+fn section((place, heard): (usize, &Heard)) -> String {
     let original = levels(&heard.sample.speech);
     let name = title(&heard.sample.name);
-    let mut text =
-        format!("<h2>&ldquo;{name}&rdquo;, through the proved tool</h2>\n<div class=\"grid\">");
+    let mut text = format!(
+        "<h2 id=\"sample{place}\">&ldquo;{name}&rdquo;, through the proved tool</h2>\n<div class=\"grid\">"
+    );
     text += &original_card(&original, &name);
     text += "</div>\n";
     for runs in heard.runs.chunk_by(|a, b| a.core == b.core) {
