@@ -1,9 +1,10 @@
 //! The comparisons themselves. Each gives the count of samples that agreed, or says where the
 //! first did not: the input, the sample's index and both values.
 
-use crate::inputs::{self, Random, Signal};
+use crate::inputs::{self, Signal};
 use crate::spandsp::{Peer, CORE};
 use crate::speech;
+use draws::Random;
 use second::g711::Law;
 use second::sample;
 use second::state::State;
@@ -132,14 +133,14 @@ fn decoders(name: &str, law: Law, codes: &[u8]) -> Agreed {
 
 /// One step of the encoder and one of the decoder, each counted, from states that streams seldom or never meet.
 fn drawn_states() -> Agreed {
-    let mut random = Random(14);
+    let mut random = Random::new(14);
     let mut total = Count::default();
     for law in Law::BOTH {
         let mut peer = Peer::new(law);
         let mut count = Count::default();
         for index in 0..DRAWN_STATES {
             let state = inputs::limited_state(&mut random, CORE);
-            encoder_step(&mut peer, &state, law, index, random.next() as u8)?;
+            encoder_step(&mut peer, &state, law, index, random.draw() as u8)?;
             let moved = decoder_step(&mut peer, &state, law, index, random.below(4) as u8)?;
             count.samples += 2;
             count.moved += usize::from(moved);

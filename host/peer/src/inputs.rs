@@ -1,39 +1,10 @@
 //! What is fed to both codecs: tones, noise and random bytes for the encoders, random and held
 //! codes for the decoders, and states drawn from the table of ranges.
 
+use draws::Random;
 use second::g711::{compress, Law};
 use second::state::State;
 use std::f64::consts::TAU;
-
-/// SplitMix64, with a fixed start so that a disagreement can be met again.
-pub struct Random(pub u64);
-
-impl Random {
-    pub fn next(&mut self) -> u64 {
-        self.0 = self.0.wrapping_add(0x9E37_79B9_7F4A_7C15);
-        let mut z = self.0;
-        z = (z ^ (z >> 30)).wrapping_mul(0xBF58_476D_1CE4_E5B9);
-        z = (z ^ (z >> 27)).wrapping_mul(0x94D0_49BB_1331_11EB);
-        z ^ (z >> 31)
-    }
-
-    pub fn below(&mut self, bound: u64) -> u64 {
-        self.next() % bound
-    }
-
-    fn between(&mut self, low: u64, high: u64) -> u64 {
-        match self.below(16) {
-            0 => low,
-            1 => high,
-            _ => low + self.below(high - low + 1),
-        }
-    }
-
-    /// From -1 to 1.
-    fn fraction(&mut self) -> f64 {
-        (self.next() >> 11) as f64 / (1_u64 << 52) as f64 - 1.0
-    }
-}
 
 /// A named input for the encoders, as levels of fourteen bits.
 pub struct Signal {
@@ -87,7 +58,7 @@ fn tone(frequency: u32, peak: i32, keying: usize) -> Signal {
 
 /// Noise at several strengths, and in bursts that change its strength a hundred times a second.
 pub fn noises() -> Vec<Signal> {
-    let mut random = Random(11);
+    let mut random = Random::new(11);
     let mut signals = Vec::new();
     for peak in [1, 4, 30, 250, 2_000, 8_000, 30_000] {
         signals.push(Signal {
@@ -113,7 +84,7 @@ pub fn noises() -> Vec<Signal> {
 
 /// Bytes of any value, drawn anew or held for a while.
 pub fn random_bytes() -> Vec<u8> {
-    let mut random = Random(12);
+    let mut random = Random::new(12);
     runs(&mut random, 20 * LONG, 256, 40)
 }
 
@@ -126,7 +97,7 @@ pub struct Codes {
 /// Codes that no encoder would send: each one held for thousands of samples, pairs and triples
 /// in turn, and random ones in runs of many lengths.
 pub fn code_sequences() -> Vec<Codes> {
-    let mut random = Random(13);
+    let mut random = Random::new(13);
     let mut sequences = Vec::new();
     for first in 0..4_u8 {
         for second in 0..4_u8 {
@@ -163,21 +134,21 @@ fn runs(random: &mut Random, count: usize, values: u64, longest: u64) -> Vec<u8>
 /// A state of the table of ranges, with A1 and A2 inside the limits that LIMC and LIMD keep:
 /// spandsp folds those limits into its update and so says nothing of coefficients beyond them.
 pub fn limited_state(random: &mut Random, core: u8) -> State {
-    let a2 = random.between(0, 24_576) as i32 - 12_288;
+    let a2 = random.within(0, 24_576) as i32 - 12_288;
     let bound = 15_360 - a2;
-    let a1 = random.between(0, 2 * bound as u64) as i32 - bound;
+    let a1 = random.within(0, 2 * bound as u64) as i32 - bound;
     State {
-        yu: random.between(544, 5_120) as u16,
-        yl: random.between(34_816, 327_680) as u32,
-        dms: random.between(0, 3_584) as u16,
-        dml: random.between(0, 14_336) as u16,
-        ap: random.between(0, 512) as u16,
+        yu: random.within(544, 5_120) as u16,
+        yl: random.within(34_816, 327_680) as u32,
+        dms: random.within(0, 3_584) as u16,
+        dml: random.within(0, 14_336) as u16,
+        ap: random.within(0, 512) as u16,
         a1: a1 as u16,
         a2: a2 as u16,
         b: std::array::from_fn(|_| any_word(random)),
-        dq: std::array::from_fn(|_| float_word(random, 14)),
-        sr1: float_word(random, 15),
-        sr2: float_word(random, 15),
+        dq: std::array::from_fn(|_| random.float_word(14)),
+        sr1: random.float_word(15),
+        sr2: random.float_word(15),
         pk1: random.below(2) as u8,
         pk2: random.below(2) as u8,
         td: random.below(2) as u8,
@@ -189,11 +160,6 @@ fn any_word(random: &mut Random) -> u16 {
     match random.below(8) {
         0 => 32_766 + random.below(8) as u16,
         1 => (random.below(512) as u16).wrapping_sub(256),
-        _ => random.next() as u16,
+        _ => random.draw() as u16,
     }
-}
-
-fn float_word(random: &mut Random, most_exponent: u64) -> u16 {
-    let (sign, exponent) = (random.below(2), random.between(0, most_exponent));
-    (sign << 10 | exponent << 6 | random.between(32, 63)) as u16
 }

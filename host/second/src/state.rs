@@ -82,3 +82,30 @@ fn is_float(word: u16, most_exponent: u16) -> bool {
     let sign_and_exponent = word / 64;
     sign_and_exponent < 32 && sign_and_exponent % 16 <= most_exponent && word % 64 >= 32
 }
+
+#[cfg(test)]
+mod tests {
+    use super::*;
+
+    #[test]
+    fn the_numbers_of_a_state_in_order() {
+        let state = State {
+            yu: 1,
+            yl: 2,
+            dms: 3,
+            dml: 4,
+            ap: 5,
+            a1: 6,
+            a2: 7,
+            b: [8, 9, 10, 11, 12, 13],
+            dq: [14, 15, 16, 17, 18, 19],
+            sr1: 20,
+            sr2: 21,
+            pk1: 22,
+            pk2: 23,
+            td: 24,
+            core: 25,
+        };
+        assert_eq!(state.numbers(), Vec::from_iter(1..=25));
+    }
+}

@@ -45,7 +45,7 @@ fn every_difference_is_allowed_by_one_codeword_of_each_width() {
     let mut random = Random::new(10);
     for round in 0..2_000 {
         let state = any_state(&mut random, [2, 3, 4][round % 3]);
-        let difference = random.next() as i16 as i32;
+        let difference = random.draw() as i16 as i32;
         for width in 2..=5 {
             let allowing = (0..1_u8 << width)
                 .filter(|&codeword| allows(&state, width, codeword, difference))

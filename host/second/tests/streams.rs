@@ -10,7 +10,7 @@ use second::sample;
 use second::state::State;
 use support::{Random, PAIRS};
 
-/// Noise around a slow tone, its strength drawn anew for every frame.
+/// Noise around a level, both drawn anew for every frame.
 fn pcm(random: &mut Random, law: u8, count: usize) -> Vec<u8> {
     let law = Law::from_number(law).unwrap();
     let strength = 1 << random.below(14);

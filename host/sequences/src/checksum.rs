@@ -1,4 +1,4 @@
-//! The checksum of a list of numbers, and a state as such a list.
+//! The checksum of a list of numbers, and of a state as such a list.
 
 use second::state::State;
 
@@ -17,17 +17,5 @@ pub fn of_octets(values: impl IntoIterator<Item = u8>) -> u64 {
 }
 
 pub fn of_state(state: &State) -> u64 {
-    of_numbers(fields(state))
-}
-
-/// YU, YL, DMS, DML, AP, A1, A2, B1 to B6, DQ1 to DQ6, SR1, SR2, PK1, PK2, TD, core.
-pub fn fields(state: &State) -> Vec<u64> {
-    let mut found = vec![u64::from(state.yu), u64::from(state.yl)];
-    let words = [state.dms, state.dml, state.ap, state.a1, state.a2];
-    found.extend(words.map(u64::from));
-    found.extend(state.b.map(u64::from));
-    found.extend(state.dq.map(u64::from));
-    found.extend([state.sr1, state.sr2].map(u64::from));
-    found.extend([state.pk1, state.pk2, state.td, state.core].map(u64::from));
-    found
+    of_numbers(state.numbers().into_iter().map(u64::from))
 }

@@ -1,8 +1,7 @@
 //! The lines: their names and order, their form, and what the checksums of related sequences must
 //! share.
 
-use second::state::State;
-use sequences::checksum::{fields, of_numbers};
+use sequences::checksum::of_numbers;
 use sequences::files::Inputs;
 use sequences::lines::{dump, line, lines};
 use sequences::names::{all, Sequence};
@@ -45,28 +44,6 @@ fn the_checksum_by_hand() {
         of_numbers([65_534, 1]),
         (65_535 * 65_599 + 2) % 4_294_967_291
     );
-}
-
-#[test]
-fn the_fields_of_a_state_in_order() {
-    let state = State {
-        yu: 1,
-        yl: 2,
-        dms: 3,
-        dml: 4,
-        ap: 5,
-        a1: 6,
-        a2: 7,
-        b: [8, 9, 10, 11, 12, 13],
-        dq: [14, 15, 16, 17, 18, 19],
-        sr1: 20,
-        sr2: 21,
-        pk1: 22,
-        pk2: 23,
-        td: 24,
-        core: 25,
-    };
-    assert_eq!(fields(&state), Vec::from_iter(1..=25));
 }
 
 #[test]

@@ -13,7 +13,7 @@ fn every_call_agrees() {
     assert_eq!(report.missing(), []);
 }
 
-/// A digit changed in any field after the equals sign, or anywhere before it where the answer shows it.
+/// The last digit changed of each field after the equals sign, in every 97th line.
 #[test]
 fn a_changed_answer_is_found() {
     let text = written();
