@@ -10,12 +10,13 @@ use borrow.Author.Tests.{ne-eqb}
 use lib.Dec.{T, eqb, leb, ltb, eqb→eq, ltb→lt}
 use Rattle.words.specs.Notation.{_>>_}
 use Rattle.words.proofs.Tests.{span, below-at}
+use Rattle.lists.specs.Tabulate.{entries}
 use Rattle.quantizer.specs.Codeword.{Width, Codeword}
 use Rattle.quantizer.specs.Table.{find}
 use Rattle.quantizer.specs.Decision.{QUAN, decisions, table8, table9, table10, table11}
 use Rattle.quantizer.specs.Sync.{IM, ID, places, table17, table18, table19, table20}
 use Rattle.quantizer.specs.Threshold.{reached, coded}
-use Rattle.quantizer.proofs.Columns.{tabulate, begins, levels}
+use Rattle.quantizer.proofs.Columns.{begins, levels}
 use Rattle.quantizer.proofs.Thresholds.{is-level, coded-steady}
 use Rattle.quantizer.proofs.Tests.{all, widths, at-width, width}
 use Rattle.quantizer.proofs.Bounds.{bounds, leasts, at-bounds, quan-steady, id-steady}
@@ -34,7 +35,7 @@ abbrev holds : (ℕ → ℕ → Seen → Bool) → ℕ → ℕ → Bool
 holds q w s = all (λ n. q w s (seen w s n)) bounds
 
 levels-begin : {w : ℕ} → Width w → T (all is-level (levels w))
-unfolding levels begins tabulate decisions table8 table9 table10 table11 bounds leasts
+unfolding levels begins entries decisions table8 table9 table10 table11 bounds leasts
 levels-begin h = at-width (λ w. all is-level (levels w)) tt h
 
 everywhere : (q : ℕ → ℕ → Seen → Bool) → T (widths (λ w. span 0 2 (holds q w))) →
@@ -56,7 +57,7 @@ pub record Coding (w s n : ℕ) : Type 0 where
   pub counted : coded (levels w) n s ≡ QUAN w n s
 
 pub coding : {w s n : ℕ} → Width w → n < 4096 → s < 2 → Coding w s n
-unfolding QUAN decisions table8 table9 table10 table11 find ID IM places table17 table18 table19 table20 coded reached levels begins tabulate bounds leasts
+unfolding QUAN decisions table8 table9 table10 table11 find ID IM places table17 table18 table19 table20 coded reached levels begins entries bounds leasts
 coding hw hn hs =
     record {
       nests = eqb→eq _ _ (everywhere (λ w s v. eqb (v .codeword) (v .longest >> (5 - w))) tt hw hn hs);

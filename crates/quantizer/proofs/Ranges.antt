@@ -9,11 +9,12 @@ use lib.Dec.{T, eqb, leb, ltb, eqb→eq, leb→le, ltb→lt}
 use lib.ListN.{getD}
 use Rattle.words.specs.Notation.{_>>_}
 use Rattle.words.proofs.Tests.{and-left, and-right}
+use Rattle.lists.specs.Tabulate.{entries, tabulate}
 use Rattle.quantizer.specs.Codeword.{Width, Codeword, CoreCodeword}
 use Rattle.quantizer.specs.Table.{Level, level, output}
 use Rattle.quantizer.specs.Output.{outputs, table12, table13, table14, table15, RECONST}
 use Rattle.quantizer.specs.Multiplier.{IM-core, multipliers, speeds, FUNCTW, FUNCTF}
-use Rattle.quantizer.proofs.Columns.{tabulate, column}
+use Rattle.quantizer.proofs.Columns.{column}
 use Rattle.quantizer.proofs.Tests.{at-width, at-codeword, at-core}
 
 -- x is a 12-bit word from -below to span - below
@@ -56,7 +57,7 @@ functf-small h = leb→le _ _ (at-core (λ w I. leb (FUNCTF w I) 7) tt h)
 
 -- the levels of the sign 0 are those of both signs, read by magnitude
 pub column-is : (v : ℕ) {w I m : ℕ} → Codeword w I → w ≡ v → m ≡ IM-core w I → getD (column v) m 0 ≡ output (outputs w) I
-unfolding column tabulate IM-core output outputs table12 table13 table14 table15
+unfolding column entries tabulate IM-core output outputs table12 table13 table14 table15
 column-is v h e is =
     rw (is, ← e)
     (eqb→eq _ _ (at-codeword (λ w I. eqb (getD (column w) (IM-core w I) 0) (output (outputs w) I)) tt h))

@@ -2,8 +2,9 @@
 -- Assumes nothing.
 use borrow.Author.Needs.{needs}
 use mathlib.Core.Path.{refl, _∙_}
+use Rattle.lists.specs.Tabulate.{entries}
 use Rattle.quantizer.specs.Decision.{table8, table9, table10, table11, decisions}
-use Rattle.quantizer.proofs.Columns.{tabulate, begins, levels}
+use Rattle.quantizer.proofs.Columns.{begins, levels}
 use Rattle.quantizer.proofs.Nesting.{by-levels, read-as-5}
 use Rattle.quantizer.proofs.decision.quan.Statement.{statement}
 use Rattle.quantizer.proofs.decision.quan.Tie as tie
@@ -15,7 +16,7 @@ codeword-of-requires : tie.Need-codeword-of-requires
 codeword-of-requires c κs = search needs
 
 returns : tie.Need-returns
-unfolding levels begins tabulate decisions table8 table9 table10 table11
+unfolding levels begins entries decisions table8 table9 table10 table11
 returns c =
     by-levels 2 tt (c .before .before .if1 .taken) (c .codeword-of .ensures) (c .before .before .before .pre)
 
@@ -26,7 +27,7 @@ codeword-of-requires-2 : tie.Need-codeword-of-requires-2
 codeword-of-requires-2 c κs = search needs
 
 returns-2 : tie.Need-returns-2
-unfolding levels begins tabulate decisions table8 table9 table10 table11
+unfolding levels begins entries decisions table8 table9 table10 table11
 returns-2 c =
     by-levels 3 tt (c .before .before .if2 .taken) (c .codeword-of2 .ensures) (c .before .before .before .before .pre)
 
@@ -37,7 +38,7 @@ codeword-of-requires-3 : tie.Need-codeword-of-requires-3
 codeword-of-requires-3 c κs = search needs
 
 returns-3 : tie.Need-returns-3
-unfolding levels begins tabulate decisions table8 table9 table10 table11
+unfolding levels begins entries decisions table8 table9 table10 table11
 returns-3 c =
     by-levels 4 tt (c .before .before .if3 .taken) (c .codeword-of3 .ensures) (c .before .before .before .before .before .pre)
 
@@ -48,7 +49,7 @@ codeword-of-requires-4 : tie.Need-codeword-of-requires-4
 codeword-of-requires-4 c κs = search needs
 
 returns-4 : tie.Need-returns-4
-unfolding levels begins tabulate decisions table8 table9 table10 table11
+unfolding levels begins entries decisions table8 table9 table10 table11
 returns-4 c =
     let start = c .before .before .before .before .before in
     by-levels 5 tt refl (c .codeword-of4 .ensures) (start .pre)
