@@ -7,7 +7,6 @@ pub mod Sounds
 pub mod Codewords
 pub mod Fields
 pub mod Bits
-pub mod Parts
 pub mod Return
 pub mod Thinning
 pub mod Kept

@@ -10,14 +10,14 @@ use lib.ListN.{length, getD, take, drop, length-drop, length-map}
 use lib.Pow.{shr-shr}
 use lib.Seq.{take-all, take-take, take-append-add, getD-take}
 use Rattle.words.specs.Notation.{_>>_}
-use Rattle.lists.proofs.Tables.{tabulate-same}
+use Rattle.lists.proofs.Parts.{drop-take, drop-map}
+use Rattle.lists.proofs.Tables.{tabulate-same, map-tabulate}
 use Rattle.frame.specs.Format.{widthOf, frameLength}
 use Rattle.frame.specs.Planes.{bit, gather, octetAt, plane, planes, frameOf}
 use Rattle.frame.specs.Read.{collect, codewordAt, codewords, frameWidth, frameCore, frameGroups, body, received, thinned}
 use Rattle.frame.specs.Sound.{Sound}
 use Rattle.frame.proofs.Bits.{bit-gone}
 use Rattle.frame.proofs.Fields.{head-back, width-small, written-fields, thinned-fields}
-use Rattle.frame.proofs.Parts.{drop-take, drop-map, map-tabulate}
 use Rattle.frame.proofs.Sizes.{plane-length}
 
 -- the codewords with their d lowest bits left out

@@ -1,4 +1,4 @@
--- Laws of tabulated lists: their length, their entries, their first part, and that equal entries make equal lists.
+-- Laws of tabulated lists: their length, their entries, that equal entries make equal lists, and what a map makes of them.
 -- Assumes nothing.
 use mathlib.Core.Path.{_≡_, refl, sym, ap, _∙_}
 use mathlib.Core.List.{List, [], _∷_, map}
@@ -45,3 +45,13 @@ module _ {A : Type 0} where
   tabulate-list xs d =
       ext-getD d _ xs (length-tabulate (length xs) (λ k. getD xs k d))
       (λ k h. getD-tabulate (length xs) (λ k. getD xs k d) k d (rw length-tabulate at h))
+
+  module _ {B : Type 0} (f : A → B) where
+    map-entries : (h : ℕ → A) (i n : ℕ) → map f (entries h i n) ≡ entries (λ k. f (h k)) i n
+    unfolding entries
+    map-entries h i zero = refl
+    map-entries h i (suc n) = ap (λ (l : List B). f (h i) ∷ l) (map-entries h (suc i) n)
+
+    pub map-tabulate : (n : ℕ) (h : ℕ → A) → map f (tabulate n h) ≡ tabulate n (λ k. f (h k))
+    unfolding tabulate
+    map-tabulate n h = map-entries h 0 n
