@@ -48,23 +48,24 @@ module _ (s : State) (LAW : ℕ) (frame : List ℕ) where
   decodedMoved = total next moved s (received frame)
 
   module _ (before : List ℕ) where
-    unfoldable pub decodeFits : ℕ
-    decodeFits = decodeNumber (length before)
+    -- the number of the reply that is due for what is lent
+    unfoldable pub decodeReply : ℕ
+    decodeReply = decodeNumber (length before)
 
     unfoldable pub decodeOctets : ℕ
-    decodeOctets = pick (eqb decodeFits 0) (group * frameGroups frame) 0
+    decodeOctets = pick (eqb decodeReply 0) (group * frameGroups frame) 0
 
     unfoldable pub decodeMoved : ℕ
-    decodeMoved = pick (eqb decodeFits 0) decodedMoved 0
+    decodeMoved = pick (eqb decodeReply 0) decodedMoved 0
 
     unfoldable pub decodeState : State
-    decodeState = pick (eqb decodeFits 0) decodedState s
+    decodeState = pick (eqb decodeReply 0) decodedState s
 
     unfoldable pub decodeOut : List ℕ
-    decodeOut = pick (eqb decodeFits 0) (decodedBytes ++ drop (group * frameGroups frame) before) before
+    decodeOut = pick (eqb decodeReply 0) (decodedBytes ++ drop (group * frameGroups frame) before) before
 
     pub record Decodes (after : List ℕ) (r : Heard) : Type 0 where
-      pub number : numberOf (r .reply) ≡ decodeFits
+      pub number : numberOf (r .reply) ≡ decodeReply
       pub octets : r .octets ≡ decodeOctets
       pub moved : r .moved ≡ decodeMoved
       pub state : r .state ≡ decodeState

@@ -25,16 +25,17 @@ module _ (frame : List ℕ) (w : ℕ) where
       (wrongWith frame)
 
   module _ (before : List ℕ) where
-    unfoldable pub dropFits : ℕ
-    dropFits = dropNumber (length before)
+    -- the number of the reply that is due for what is lent
+    unfoldable pub dropReply : ℕ
+    dropReply = dropNumber (length before)
 
     unfoldable pub dropOctets : ℕ
-    dropOctets = pick (eqb dropFits 0) (frameLength w (frameGroups frame)) 0
+    dropOctets = pick (eqb dropReply 0) (frameLength w (frameGroups frame)) 0
 
     unfoldable pub dropOut : List ℕ
-    dropOut = pick (eqb dropFits 0) (thinned w frame ++ drop (frameLength w (frameGroups frame)) before) before
+    dropOut = pick (eqb dropReply 0) (thinned w frame ++ drop (frameLength w (frameGroups frame)) before) before
 
     pub record Drops (after : List ℕ) (r : Dropped) : Type 0 where
-      pub number : numberOf (r .reply) ≡ dropFits
+      pub number : numberOf (r .reply) ≡ dropReply
       pub octets : r .octets ≡ dropOctets
       pub out : after ≡ dropOut

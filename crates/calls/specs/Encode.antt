@@ -44,20 +44,21 @@ module _ (s : State) (LAW width : ℕ) where
   encodedFrame samples = frameOf width (s .core) (encodedCodewords samples)
 
   module _ (samples before : List ℕ) where
-    unfoldable pub encodeFits : ℕ
-    encodeFits = encodeNumber (length samples) (length before)
+    -- the number of the reply that is due for what is lent
+    unfoldable pub encodeReply : ℕ
+    encodeReply = encodeNumber (length samples) (length before)
 
     unfoldable pub encodeOctets : ℕ
-    encodeOctets = pick (eqb encodeFits 0) (frameLength width (length samples / group)) 0
+    encodeOctets = pick (eqb encodeReply 0) (frameLength width (length samples / group)) 0
 
     unfoldable pub encodeState : State
-    encodeState = pick (eqb encodeFits 0) (encodedState samples) s
+    encodeState = pick (eqb encodeReply 0) (encodedState samples) s
 
     unfoldable pub encodeOut : List ℕ
-    encodeOut = pick (eqb encodeFits 0) (encodedFrame samples ++ drop (frameLength width (length samples / group)) before) before
+    encodeOut = pick (eqb encodeReply 0) (encodedFrame samples ++ drop (frameLength width (length samples / group)) before) before
 
     pub record Encodes (after : List ℕ) (r : Coded) : Type 0 where
-      pub number : numberOf (r .reply) ≡ encodeFits
+      pub number : numberOf (r .reply) ≡ encodeReply
       pub octets : r .octets ≡ encodeOctets
       pub state : r .state ≡ encodeState
       pub out : after ≡ encodeOut

@@ -23,7 +23,7 @@ use Rattle.frame.proofs.Thinning.{received-thinned}
 use Rattle.frame.proofs.Kept.{written-sound}
 use Rattle.calls.specs.Reset.{resetState}
 use Rattle.calls.specs.Encode.{encodedFrame, encodedCodewords, encodedState}
-use Rattle.calls.specs.Decode.{decodeFits, decodedState, decodeState}
+use Rattle.calls.specs.Decode.{decodeReply, decodedState, decodeState}
 use Rattle.calls.specs.Inner.{Codable}
 use Rattle.calls.proofs.Answers.{codewords-length}
 use Rattle.tracking.specs.Stream.{Station, Way, written, encoderAfter, arrived, Passed, decoderAfter, Unrefused, AllUnrefused, EqualThroughout}

@@ -15,9 +15,9 @@ use Rattle.frame.specs.Read.{frameWidth, frameCore, frameGroups, thinned}
 use Rattle.frame.specs.Sound.{Sound}
 use Rattle.frame.proofs.Fields.{written-fields, thinned-fields}
 use Rattle.frame.proofs.Kept.{thinned-sound}
-use Rattle.calls.specs.Encode.{encodedFrame, encodedCodewords, encodedState, encodeFits}
-use Rattle.calls.specs.Decode.{decodeFits}
-use Rattle.calls.specs.Drop.{dropFits}
+use Rattle.calls.specs.Encode.{encodedFrame, encodedCodewords, encodedState, encodeReply}
+use Rattle.calls.specs.Decode.{decodeReply}
+use Rattle.calls.specs.Drop.{dropReply}
 use Rattle.calls.specs.Inner.{Codable, Playable, Droppable}
 use Rattle.calls.proofs.Fitness.{encode-of, decode-of, drop-of}
 use Rattle.calls.proofs.Answers.{codewords-length}
@@ -28,7 +28,7 @@ use Rattle.tracking.proofs.Demand3.{frame-sound, frame-width, frame-cor
 
 -- no base station refuses a sound frame that comes down to it
 passes : (frame : List ℕ) (stations : List Station) → Sound frame → Downhill (frameCore frame) (frameGroups frame) (frameWidth frame) stations → Passed frame stations
-unfolding dropFits
+unfolding dropReply
 passes frame [] sound d = tt
 passes frame (b ∷ bs) sound d =
     let fits = drop-of frame (b .width) (length (b .buffer)) (record { sound = sound; target = d .0; space = d .1 }) in
@@ -41,8 +41,8 @@ module _ (s : State) (w : Way) (i : InRange s) (k : Speakable (s .core) w) where
   able : Codable s (w .width) (length (w .samples)) (length (w .buffer))
   able = record { range = i; pair = record { core = k .pair .low; most = k .pair .high }; whole = k .whole; groups = k .groups; space = k .room }
 
-  encodes : encodeFits s (w .law) (w .width) (w .samples) (w .buffer) ≡ 0
-  unfolding encodeFits
+  encodes : encodeReply s (w .law) (w .width) (w .samples) (w .buffer) ≡ 0
+  unfolding encodeReply
   encodes = encode-of s (w .law) (w .width) (length (w .samples)) (length (w .buffer)) (k .law) able
 
   sound : Sound (encodedFrame s (w .law) (w .width) (w .samples))
@@ -66,7 +66,7 @@ module _ (s : State) (w : Way) (i : InRange s) (k : Speakable (s .core) w) where
   drops = passes (encodedFrame s (w .law) (w .width) (w .samples)) (w .stations) sound (rw (core-is, groups-are, width-is) (k .stations))
 
   pub way-fits : Unrefused s s w
-  unfolding decodeFits
+  unfolding decodeReply
   way-fits =
       let frame = encodedFrame s (w .law) (w .width) (w .samples) in
       let sent = written-is s w encodes in

@@ -19,16 +19,16 @@ use Rattle.frame.proofs.Sizes.{frame-length}
 use Rattle.frame.proofs.Fields.{written-fields, thinned-fields}
 use Rattle.frame.proofs.Thinning.{thinned-same, thinned-thinned}
 use Rattle.frame.proofs.Kept.{written-sound, thinned-sound, thinned-length}
-use Rattle.calls.specs.Encode.{encodedFrame, encodedCodewords, encodedState, encodeFits, encodeOctets, encodeState, encodeOut}
-use Rattle.calls.specs.Drop.{dropFits, dropOctets, dropOut}
+use Rattle.calls.specs.Encode.{encodedFrame, encodedCodewords, encodedState, encodeReply, encodeOctets, encodeState, encodeOut}
+use Rattle.calls.specs.Drop.{dropReply, dropOctets, dropOut}
 use Rattle.calls.specs.Inner.{Codable, Droppable}
 use Rattle.calls.proofs.Fitness.{encode-says, drop-says}
 use Rattle.calls.proofs.Answers.{codewords-length}
 use Rattle.tracking.specs.Stream.{Station, Way, written, encoderAfter, passedOn, arrived, Passed}
 
-module _ (s : State) (w : Way) (fits : encodeFits s (w .law) (w .width) (w .samples) (w .buffer) ≡ 0) where
+module _ (s : State) (w : Way) (fits : encodeReply s (w .law) (w .width) (w .samples) (w .buffer) ≡ 0) where
   pub codable : Codable s (w .width) (length (w .samples)) (length (w .buffer))
-  unfolding encodeFits
+  unfolding encodeReply
   codable = encode-says s (w .law) (w .width) (length (w .samples)) (length (w .buffer)) fits
 
   -- the octets that encode reports are the encoded frame
@@ -44,9 +44,9 @@ module _ (s : State) (w : Way) (fits : encodeFits s (w .law) (w .width) (w .samp
   unfolding encoderAfter encodeState
   encoder-is = rw (eq-eqb _ _ fits)
 
-module _ (frame : List ℕ) (b : Station) (fits : dropFits frame (b .width) (b .buffer) ≡ 0) where
+module _ (frame : List ℕ) (b : Station) (fits : dropReply frame (b .width) (b .buffer) ≡ 0) where
   pub droppable : Droppable frame (b .width) (length (b .buffer))
-  unfolding dropFits
+  unfolding dropReply
   droppable = drop-says frame (b .width) (length (b .buffer)) fits
 
   -- the octets that drop reports are the thinned frame

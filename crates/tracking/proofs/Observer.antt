@@ -18,7 +18,7 @@ use Rattle.frame.proofs.Fields.{thinned-fields}
 use Rattle.frame.proofs.Thinning.{received-thinned}
 use lib.ListN.{length}
 use borrow.Author.Tests.{eq-eqb}
-use Rattle.calls.specs.Decode.{decodedState, decodeFits, decodeState}
+use Rattle.calls.specs.Decode.{decodedState, decodeReply, decodeState}
 use Rattle.calls.proofs.Fitness.{decode-says}
 use Rattle.tracking.specs.Stream.{Twin, Agree, AllAgree, TwinsEqual}
 use Rattle.tracking.proofs.Runs.{hearing, thin, same-run}
@@ -52,7 +52,7 @@ same-core-planes s LAW LAW′ f f′ sound sound′ core core′ same =
 
 -- of the calls: one frame each, from one state
 twins-step : (s : State) (x : Twin) → Agree s s x → decodeState s (x .law) (x .frame) (x .buffer) ≡ decodeState s (x .law′) (x .frame′) (x .buffer′)
-unfolding decodeState decodeFits
+unfolding decodeState decodeReply
 twins-step s x a =
     let p = decode-says s (x .law) (x .frame) (length (x .buffer)) (a .decodes) in
     let q = decode-says s (x .law′) (x .frame′) (length (x .buffer′)) (a .decodes′) in

@@ -9,9 +9,9 @@ use Rattle.words.specs.Within.{Within}
 use Rattle.state.specs.declared.State.{State}
 use Rattle.frame.specs.Format.{group, mostGroups, frameLength}
 use Rattle.frame.specs.Read.{frameCore, thinned}
-use Rattle.calls.specs.Encode.{encodeFits, encodeOctets, encodeState, encodeOut}
-use Rattle.calls.specs.Drop.{dropFits, dropOctets, dropOut}
-use Rattle.calls.specs.Decode.{decodeFits, decodeState}
+use Rattle.calls.specs.Encode.{encodeReply, encodeOctets, encodeState, encodeOut}
+use Rattle.calls.specs.Drop.{dropReply, dropOctets, dropOut}
+use Rattle.calls.specs.Decode.{decodeReply, decodeState}
 
 -- one base station: the width that it drops to, and its buffer
 pub record Station : Type 0 where
@@ -47,7 +47,7 @@ arrived frame (b ∷ bs) = arrived (passedOn frame b) bs
 -- no base station's call is refused
 abbrev pub Passed : List ℕ → List Station → Type 0
 Passed frame [] = Unit
-Passed frame (b ∷ bs) = (dropFits frame (b .width) (b .buffer) ≡ 0) × Passed (passedOn frame b) bs
+Passed frame (b ∷ bs) = (dropReply frame (b .width) (b .buffer) ≡ 0) × Passed (passedOn frame b) bs
 
 -- the decoder's next state, from its state t, where the encoder's is s
 unfoldable pub decoderAfter : State → State → Way → State
@@ -55,9 +55,9 @@ decoderAfter s t w = decodeState t (w .law′) (arrived (written s w) (w .statio
 
 -- no call on the way is refused
 pub record Unrefused (s t : State) (w : Way) : Type 0 where
-  pub encodes : encodeFits s (w .law) (w .width) (w .samples) (w .buffer) ≡ 0
+  pub encodes : encodeReply s (w .law) (w .width) (w .samples) (w .buffer) ≡ 0
   pub drops : Passed (written s w) (w .stations)
-  pub decodes : decodeFits t (w .law′) (arrived (written s w) (w .stations)) (w .buffer′) ≡ 0
+  pub decodes : decodeReply t (w .law′) (arrived (written s w) (w .stations)) (w .buffer′) ≡ 0
 
 -- along a list of frames, one after the other: no call is refused; and the states are equal after every frame
 abbrev pub AllUnrefused : State → State → List Way → Type 0
@@ -99,8 +99,8 @@ pub record Twin : Type 0 where
 
 -- neither decoder refuses, and the frames have the same core planes
 pub record Agree (s t : State) (x : Twin) : Type 0 where
-  pub decodes : decodeFits s (x .law) (x .frame) (x .buffer) ≡ 0
-  pub decodes′ : decodeFits t (x .law′) (x .frame′) (x .buffer′) ≡ 0
+  pub decodes : decodeReply s (x .law) (x .frame) (x .buffer) ≡ 0
+  pub decodes′ : decodeReply t (x .law′) (x .frame′) (x .buffer′) ≡ 0
   pub core-planes : thinned (frameCore (x .frame)) (x .frame) ≡ thinned (frameCore (x .frame′)) (x .frame′)
 
 abbrev pub AllAgree : State → State → List Twin → Type 0

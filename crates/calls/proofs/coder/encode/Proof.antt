@@ -8,7 +8,7 @@ use native.Mathlib.Omega.{arith}
 use lib.ListN.{length}
 use denote.Ref.{now}
 use Rattle.frame.specs.Format.{frameLength}
-use Rattle.calls.specs.Encode.{encodeNumber, encodeFits, encodeOctets, encodeState, encodeOut}
+use Rattle.calls.specs.Encode.{encodeNumber, encodeReply, encodeOctets, encodeState, encodeOut}
 use Rattle.calls.proofs.Fitness.{encode-says}
 use Rattle.calls.proofs.Answers.{refusal, success, encode-small}
 use Rattle.calls.proofs.coder.encode.Statement.{statement}
@@ -32,7 +32,7 @@ reply-of-requires : tie.Need-reply-of-requires
 reply-of-requires c κs = rw (c .before .encode-number .ensures) (encode-small _ _ _ _ _)
 
 returns : tie.Need-returns
-unfolding encodeFits encodeOctets encodeState encodeOut
+unfolding encodeReply encodeOctets encodeState encodeOut
 returns c =
     let refused = unfit (c .before) in
     record {
@@ -55,7 +55,7 @@ same-length : tie.Need-same-length
 same-length c = search needs
 
 returns-2 : tie.Need-returns-2
-unfolding encodeFits encodeOctets encodeState encodeOut frameLength
+unfolding encodeReply encodeOctets encodeState encodeOut frameLength
 returns-2 c =
     let n = fit (c .before .before .before .before) in
     let coded = c .before .before .encode-into .ensures in

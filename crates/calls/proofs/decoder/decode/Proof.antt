@@ -6,7 +6,7 @@ use native.Mathlib.Omega.{arith}
 use lib.ListN.{length}
 use denote.Ref.{now}
 use Rattle.frame.specs.Read.{frameGroups}
-use Rattle.calls.specs.Decode.{decodeNumber, decodeFits, decodeOctets, decodeMoved, decodeState, decodeOut}
+use Rattle.calls.specs.Decode.{decodeNumber, decodeReply, decodeOctets, decodeMoved, decodeState, decodeOut}
 use Rattle.calls.proofs.Fitness.{decode-says}
 use Rattle.calls.proofs.Answers.{refusal, success, decode-small}
 use Rattle.calls.proofs.decoder.decode.Statement.{statement}
@@ -25,7 +25,7 @@ reply-of-requires : tie.Need-reply-of-requires
 reply-of-requires c κs = rw (c .before .decode-number .ensures) (decode-small _ _ _ _)
 
 returns : tie.Need-returns
-unfolding decodeFits decodeOctets decodeMoved decodeState decodeOut
+unfolding decodeReply decodeOctets decodeMoved decodeState decodeOut
 returns c =
     let refused = unfit (c .before) in
     record {
@@ -52,7 +52,7 @@ same-length : tie.Need-same-length
 same-length c = search needs
 
 returns-2 : tie.Need-returns-2
-unfolding decodeFits decodeOctets decodeMoved decodeState decodeOut frameGroups
+unfolding decodeReply decodeOctets decodeMoved decodeState decodeOut frameGroups
 returns-2 c =
     let n = fit (c .before .before .before .before .before .before .before) in
     let played = c .before .before .before .decode-into .ensures in

@@ -10,7 +10,7 @@ use lib.ListN.{length}
 use denote.Ref.{now}
 use Rattle.frame.specs.Format.{frameLength}
 use Rattle.frame.specs.Read.{frameGroups}
-use Rattle.calls.specs.Drop.{dropNumber, dropFits, dropOctets, dropOut}
+use Rattle.calls.specs.Drop.{dropNumber, dropReply, dropOctets, dropOut}
 use Rattle.calls.specs.Inner.{Droppable}
 use Rattle.calls.proofs.Fitness.{drop-says}
 use Rattle.calls.proofs.Answers.{refusal, success, drop-small}
@@ -40,7 +40,7 @@ reply-of-requires : tie.Need-reply-of-requires
 reply-of-requires c κs = rw (c .before .drop-number .ensures) (drop-small _ _ _)
 
 returns : tie.Need-returns
-unfolding dropFits dropOctets dropOut
+unfolding dropReply dropOctets dropOut
 returns c =
     let refused = unfit (c .before) in
     record {
@@ -71,7 +71,7 @@ same-length : tie.Need-same-length
 same-length c = search needs
 
 returns-2 : tie.Need-returns-2
-unfolding dropFits dropOctets dropOut frameLength frameGroups
+unfolding dropReply dropOctets dropOut frameLength frameGroups
 returns-2 c =
     let n = fit (c .before .before .before .before .before .before) in
     record {
