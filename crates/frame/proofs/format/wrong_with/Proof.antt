@@ -1,13 +1,13 @@
 -- `frame::format::wrong_with` meets its contract: each return has the rows before it passed.
 -- Assumes nothing.
 use borrow.Author.Needs.{needs}
-use mathlib.Core.Path.{sym, _∙_}
+use mathlib.Core.Path.{_≡_, sym, _∙_}
 use Prim.Native.Nat.{_*_, _/_, _%_, _≤_}
 use native.Mathlib.Nat.{mul-le-mul}
 use native.Mathlib.Omega.{arith}
 use lib.ListN.{getD}
 use borrow.Author.Tests.{lt-ltb, le-ltb, eq-eqb, ne-eqb}
-use Rattle.frame.specs.Format.{editionOf, widthOf, coreOf, frameLength}
+use Rattle.frame.specs.Format.{edition, editionOf, widthOf, coreOf, frameLength}
 use Rattle.frame.specs.Read.{frameWidth, frameCore, frameGroups}
 use Rattle.frame.specs.Wrong.{wrongWith}
 use Rattle.frame.proofs.format.wrong_with.Statement.{statement}
@@ -18,6 +18,15 @@ product c =
     let x : getD (c .before .before .before .before .before .before .before .before .before .args .frame .now) 0 0 / 8 % 8 ≤ 7 = omega arith in
     let g : getD (c .before .before .before .before .before .before .before .before .before .args .frame .now) 1 0 ≤ 255 = omega (arith, c .before .before .before .before .before .shared-slice-known3 .given 1) in
     mul-le-mul x g
+
+-- what the test of the edition decides, either way
+other-edition : (c : tie.Then2) → editionOf (getD (c .before .before .before .before .before .args .frame .now) 0 0) ≡ edition → ⊥
+unfolding editionOf
+other-edition c = c .if2 .taken
+
+our-edition : (c : tie.Else2) → editionOf (getD (c .before .before .before .before .before .args .frame .now) 0 0) ≡ edition
+unfolding editionOf
+our-edition c = c .if2 .left
 
 returns : tie.Need-returns
 unfolding wrongWith
@@ -31,21 +40,21 @@ shared-slice-read-g c = search needs
 
 returns-2 : tie.Need-returns-2
 unfolding wrongWith frameWidth frameCore frameGroups editionOf widthOf coreOf frameLength
-returns-2 c = rw (le-ltb _ _ (c .before .before .before .if1 .left), ne-eqb _ _ (c .if2 .taken))
+returns-2 c = rw (le-ltb _ _ (c .before .before .before .if1 .left), ne-eqb _ _ (other-edition c))
 
 bad-pair-requires : tie.Need-bad-pair-requires
 bad-pair-requires c κs = search needs
 
 returns-3 : tie.Need-returns-3
 unfolding wrongWith frameWidth frameCore frameGroups editionOf widthOf coreOf frameLength
-returns-3 c = rw (le-ltb _ _ (c .before .before .before .before .before .if1 .left), eq-eqb _ _ (c .before .before .if2 .left), sym (c .before .bad-pair .ensures) ∙ c .if3 .taken)
+returns-3 c = rw (le-ltb _ _ (c .before .before .before .before .before .if1 .left), eq-eqb _ _ (our-edition (c .before .before)), sym (c .before .bad-pair .ensures) ∙ c .if3 .taken)
 
 bad-groups-requires : tie.Need-bad-groups-requires
 bad-groups-requires c κs = search needs
 
 returns-4 : tie.Need-returns-4
 unfolding wrongWith frameWidth frameCore frameGroups editionOf widthOf coreOf frameLength
-returns-4 c = rw (le-ltb _ _ (c .before .before .before .before .before .before .before .if1 .left), eq-eqb _ _ (c .before .before .before .before .if2 .left), sym (c .before .before .before .bad-pair .ensures) ∙ c .before .before .if3 .left, sym (c .before .bad-groups .ensures) ∙ c .if4 .taken)
+returns-4 c = rw (le-ltb _ _ (c .before .before .before .before .before .before .before .if1 .left), eq-eqb _ _ (our-edition (c .before .before .before .before)), sym (c .before .before .before .bad-pair .ensures) ∙ c .before .before .if3 .left, sym (c .before .bad-groups .ensures) ∙ c .if4 .taken)
 
 cast-if5 : tie.Need-cast-if5
 cast-if5 c = search needs
@@ -61,11 +70,11 @@ add-if5 c = omega (arith, product c)
 
 returns-5 : tie.Need-returns-5
 unfolding wrongWith frameWidth frameCore frameGroups editionOf widthOf coreOf frameLength
-returns-5 c = rw (le-ltb _ _ (c .before .before .before .before .before .before .before .before .if1 .left), eq-eqb _ _ (c .before .before .before .before .before .if2 .left), sym (c .before .before .before .before .bad-pair .ensures) ∙ c .before .before .before .if3 .left, sym (c .before .before .bad-groups .ensures) ∙ c .before .if4 .left, ne-eqb _ _ (c .if5 .taken))
+returns-5 c = rw (le-ltb _ _ (c .before .before .before .before .before .before .before .before .if1 .left), eq-eqb _ _ (our-edition (c .before .before .before .before .before)), sym (c .before .before .before .before .bad-pair .ensures) ∙ c .before .before .before .if3 .left, sym (c .before .before .bad-groups .ensures) ∙ c .before .if4 .left, ne-eqb _ _ (c .if5 .taken))
 
 returns-6 : tie.Need-returns-6
 unfolding wrongWith frameWidth frameCore frameGroups editionOf widthOf coreOf frameLength
-returns-6 c = rw (le-ltb _ _ (c .before .before .before .before .before .before .before .before .if1 .left), eq-eqb _ _ (c .before .before .before .before .before .if2 .left), sym (c .before .before .before .before .bad-pair .ensures) ∙ c .before .before .before .if3 .left, sym (c .before .before .bad-groups .ensures) ∙ c .before .if4 .left, eq-eqb _ _ (c .if5 .left))
+returns-6 c = rw (le-ltb _ _ (c .before .before .before .before .before .before .before .before .if1 .left), eq-eqb _ _ (our-edition (c .before .before .before .before .before)), sym (c .before .before .before .before .bad-pair .ensures) ∙ c .before .before .before .if3 .left, sym (c .before .before .bad-groups .ensures) ∙ c .before .if4 .left, eq-eqb _ _ (c .if5 .left))
 
 pub wrong-with-spec : {M : Type 1} → statement M
 wrong-with-spec =
