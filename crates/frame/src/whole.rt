@@ -24,7 +24,8 @@ pub fn thin_frame(frame: &[u8], w: u8, out: &mut [u8])
 {
     let n = 2 + (w as usize) * wide(frame[1]);
     bytes::copy(&frame[..n], out);
-    out[0] = header(w, frame[0] % 8);
+    let first = frame[0];
+    out[0] = header(w, first % 8);
 }
 
 // An octet as a length

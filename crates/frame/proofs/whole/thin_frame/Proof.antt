@@ -5,16 +5,12 @@ use mathlib.Core.Path.{_≡_, sym, ap, _∙_}
 use Prim.Native.Nat.{_+_, _*_, _≤_}
 use native.Mathlib.Nat.{mul-le-mul}
 use native.Mathlib.Omega.{arith}
-use lib.ListN.{length}
+use lib.ListN.{length, getD, drop}
 use lib.Seq.{length-take-le}
 use denote.Ref.{now}
-use Rattle.frame.specs.Format.{frameLength}
-use Rattle.frame.specs.Read.{frameGroups, thinned}
-use Rattle.frame.proofs.Headers.{header-renewed}
-use Rattle.frame.specs.Format.{coreOf}
-use Rattle.frame.specs.Read.{frameCore, body}
-use Rattle.frame.proofs.Headers.{copied}
-use lib.ListN.{getD, drop}
+use Rattle.frame.specs.Format.{head, coreOf, frameLength}
+use Rattle.frame.specs.Read.{frameCore, frameGroups, body, thinned}
+use Rattle.frame.proofs.Headers.{header-renewed, copied}
 use Rattle.frame.proofs.whole.thin_frame.Statement.{statement}
 use Rattle.frame.proofs.whole.thin_frame.Tie as tie
 
@@ -35,6 +31,11 @@ long c = rw (is-length c) (c .before .before .before .before .pre .2)
 room : (c : tie.After-wide) → 2 + c .before .before .before .before .args .w * c .wide .result ≤ length (now (c .before .before .before .before .args .out))
 room c = rw (is-length c) (c .before .before .before .before .pre .3)
 
+-- the octet that is stored in front has the new width, and the core of the frame
+renewed : (c : tie.After-header) → c .header .result ≡ head (c .before .before .before .before .before .before .before .before .before .before .before .args .w) (frameCore (now (c .before .before .before .before .before .before .before .before .before .before .before .args .frame)))
+unfolding frameCore coreOf
+renewed c = c .header .ensures
+
 shared-slice-read-wide : tie.Need-shared-slice-read-wide
 shared-slice-read-wide c = search needs
 
@@ -53,8 +54,8 @@ slice-aggregate-copy c = sym (length-take-le _ _ (long (c .before)))
 copy-requires : tie.Need-copy-requires
 copy-requires c κs = rw (length-take-le _ _ (long (c .before .before))) (room (c .before .before))
 
-shared-slice-read-header : tie.Need-shared-slice-read-header
-shared-slice-read-header c = search needs
+shared-slice-read-first : tie.Need-shared-slice-read-first
+shared-slice-read-first c = search needs
 
 header-requires : tie.Need-header-requires
 header-requires c κs = search needs
@@ -74,7 +75,7 @@ returns c =
     let d = now (at .args .out) in
     let m = at .args .w * getD f 1 0 in
     let done = copied (2 + at .args .w * called .wide .result) f d (long called) (c .before .before .before .before .copy .ensures .1) in
-    rw (done, c .header .ensures, called .wide .ensures .0) (header-renewed f m _ (drop (2 + m) d) (at .pre .1))
+    rw (done, renewed c, called .wide .ensures .0) (header-renewed f m _ (drop (2 + m) d) (at .pre .1))
 
 pub thin-frame-spec : {M : Type 1} → statement M
 thin-frame-spec =
@@ -86,7 +87,7 @@ thin-frame-spec =
     add-n
     slice-aggregate-copy
     copy-requires
-    shared-slice-read-header
+    shared-slice-read-first
     header-requires
     slice-write-out
     same-length
