@@ -3,7 +3,7 @@
 use borrow.Author.Needs.{needs}
 use mathlib.Core.Path.{_≡_, sym, _∙_}
 use mathlib.Core.List.{List}
-use Prim.Native.Nat.{ℕ, _*_, _≤_}
+use Prim.Native.Nat.{ℕ, _+_, _*_, _≤_}
 use native.Mathlib.Nat.{mul-le-mul, mul-le-mul-right}
 use native.Mathlib.Omega.{arith}
 use lib.ListN.{length}
@@ -27,6 +27,11 @@ product : (c : tie.After-wide) → c .before .before .before .before .before .be
 product c =
     let w : c .before .before .before .before .before .before .args .width ≤ 255 = omega (arith, c .before .before .before .before .before .before .fits .width .fits) in
     mul-le-mul w (c .wide .ensures .1)
+
+-- the count is the thinned frame's length
+counted : (c : tie.After-wide) → 2 + c .before .before .before .before .before .before .args .width * c .wide .result ≡ frameLength (c .before .before .before .before .before .before .args .width) (frameGroups (now (c .before .before .before .before .before .before .args .frame)))
+unfolding frameLength frameGroups
+counted c = rw (c .wide .ensures .0)
 
 -- a thinned frame is no longer than the frame
 thinner : {frame : List ℕ} {w room : ℕ} → Droppable frame w room → frameLength w (frameGroups frame) ≤ length frame
@@ -76,7 +81,7 @@ returns-2 c =
     let n = fit (c .before .before .before .before .before .before) in
     record {
       number = sym n;
-      octets = rw (c .before .before .before .before .wide .ensures .0) (success _ _ _ n);
+      octets = counted (c .before .before .before .before) ∙ success _ _ 0 n;
       out = c .before .before .thin-frame .ensures ∙ success _ _ _ n;
     }
 
