@@ -33,8 +33,8 @@ none w rest e =
     cases (eqb w 0) (λ t. (eqb-true w 0 t, rw t at e)) (λ t. absurd (eqb-false w 0 t (rw t at e)))
 
 module _ (s : State) (LAW : ℕ) where
-  pub encode-says : (width n room : ℕ) → encodeNumber s LAW width n room ≡ 0 → Codable s width n room
-  unfolding encodeNumber
+  pub encode-says : (width n room : ℕ) → encodeNumber s LAW width n room ≡ 0 → (LAW ≤ 1) × Codable s width n room
+  unfolding encodeNumber badLaw
   encode-says width n room e =
       let short = ltb room (frameLength width (n / 8)) in
       let row2 : ℕ = pick (badCount n) 2 (pick short 3 0) in
@@ -45,14 +45,16 @@ module _ (s : State) (LAW : ℕ) where
       let d = passed (badCount n) 2 (pick short 3 0) (omega arith) (c .1) in
       let f = passed short 3 0 (omega arith) (d .1) in
       let pair = pair-says width (s .core) (c .0) in
-      let count = count-says n (d .0) in
-      record {
-        range = range-says s (a .0);
-        pair = record { core = pair .1 .low; most = pair .1 .high };
-        whole = count .0;
-        groups = count .1;
-        space = ltb-false room (frameLength width (n / 8)) (f .0);
-      }
+      let count = count-says n (d .0) in (
+        ltb-false 1 LAW (b .0),
+        record {
+          range = range-says s (a .0);
+          pair = record { core = pair .1 .low; most = pair .1 .high };
+          whole = count .0;
+          groups = count .1;
+          space = ltb-false room (frameLength width (n / 8)) (f .0);
+        },
+      )
 
   pub encode-of : (width n room : ℕ) → LAW ≤ 1 → Codable s width n room → encodeNumber s LAW width n room ≡ 0
   unfolding encodeNumber badLaw
@@ -60,8 +62,8 @@ module _ (s : State) (LAW : ℕ) where
       let width-in : Within (s .core) 5 width = record { low = k .pair .core; high = k .pair .most } in
       rw (range-of s (k .range), le-ltb 1 LAW law, pair-of width (s .core) (k .range .cores) width-in, count-of n (k .whole) (k .groups), le-ltb _ _ (k .space))
 
-  pub decode-says : (frame : List ℕ) (room : ℕ) → decodeNumber s LAW frame room ≡ 0 → Playable s frame room
-  unfolding decodeNumber
+  pub decode-says : (frame : List ℕ) (room : ℕ) → decodeNumber s LAW frame room ≡ 0 → (LAW ≤ 1) × Playable s frame room
+  unfolding decodeNumber badLaw
   decode-says frame room e =
       let short = ltb room (8 * frameGroups frame) in
       let row7 : ℕ = pick (eqb (frameCore frame) (s .core)) (pick short 3 0) 7 in
@@ -70,13 +72,15 @@ module _ (s : State) (LAW : ℕ) where
       let b = passed (badLaw LAW) 9 rows (omega arith) (a .1) in
       let c = none (wrongWith frame) row7 (b .1) in
       let d = held (eqb (frameCore frame) (s .core)) 7 (pick short 3 0) (omega arith) (c .1) in
-      let f = passed short 3 0 (omega arith) (d .1) in
-      record {
-        range = range-says s (a .0);
-        sound = sound-says frame (c .0);
-        core = eqb-true (frameCore frame) (s .core) (d .0);
-        space = ltb-false room (8 * frameGroups frame) (f .0);
-      }
+      let f = passed short 3 0 (omega arith) (d .1) in (
+        ltb-false 1 LAW (b .0),
+        record {
+          range = range-says s (a .0);
+          sound = sound-says frame (c .0);
+          core = eqb-true (frameCore frame) (s .core) (d .0);
+          space = ltb-false room (8 * frameGroups frame) (f .0);
+        },
+      )
 
   pub decode-of : (frame : List ℕ) (room : ℕ) → LAW ≤ 1 → Playable s frame room → decodeNumber s LAW frame room ≡ 0
   unfolding decodeNumber badLaw

@@ -15,7 +15,7 @@ use Rattle.calls.specs.declared.decoder.Played.{Played}
 use Rattle.calls.specs.Encode.{encodedState, encodedCodewords, encodedFrame}
 use Rattle.calls.specs.Decode.{decodedState, decodedBytes, decodedMoved}
 
--- what encode's 0 says
+-- what encode's 0 says, beside a law of 0 or 1
 pub record Codable (s : State) (width n room : ℕ) : Type 0 where
   pub range : InRange s
   pub pair : Pair s width
@@ -23,7 +23,7 @@ pub record Codable (s : State) (width n room : ℕ) : Type 0 where
   pub groups : Within 1 mostGroups (n / group)
   pub space : frameLength width (n / group) ≤ room
 
--- what decode's 0 says
+-- what decode's 0 says, beside a law of 0 or 1
 pub record Playable (s : State) (frame : List ℕ) (room : ℕ) : Type 0 where
   pub range : InRange s
   pub sound : Sound frame

@@ -29,7 +29,7 @@ use Rattle.tracking.specs.Stream.{Station, Way, written, encoderAfter, p
 module _ (s : State) (w : Way) (fits : encodeReply s (w .law) (w .width) (w .samples) (w .buffer) ≡ 0) where
   pub codable : Codable s (w .width) (length (w .samples)) (length (w .buffer))
   unfolding encodeReply
-  codable = encode-says s (w .law) (w .width) (length (w .samples)) (length (w .buffer)) fits
+  codable = encode-says s (w .law) (w .width) (length (w .samples)) (length (w .buffer)) fits .1
 
   -- the octets that encode reports are the encoded frame
   pub written-is : written s w ≡ encodedFrame s (w .law) (w .width) (w .samples)

@@ -54,8 +54,8 @@ same-core-planes s LAW LAW′ f f′ sound sound′ core core′ same =
 twins-step : (s : State) (x : Twin) → Agree s s x → decodeState s (x .law) (x .frame) (x .buffer) ≡ decodeState s (x .law′) (x .frame′) (x .buffer′)
 unfolding decodeState decodeReply
 twins-step s x a =
-    let p = decode-says s (x .law) (x .frame) (length (x .buffer)) (a .decodes) in
-    let q = decode-says s (x .law′) (x .frame′) (length (x .buffer′)) (a .decodes′) in
+    let p = decode-says s (x .law) (x .frame) (length (x .buffer)) (a .decodes) .1 in
+    let q = decode-says s (x .law′) (x .frame′) (length (x .buffer′)) (a .decodes′) .1 in
     rw (eq-eqb _ _ (a .decodes), eq-eqb _ _ (a .decodes′))
     (same-core-planes s (x .law) (x .law′) (x .frame) (x .frame′) (p .sound) (q .sound) (p .core) (q .core) (a .core-planes))
 

@@ -22,7 +22,7 @@ unfit c e = c .if1 .taken (c .before .encode-number .ensures ∙ e)
 
 product : (c : tie.Else1) → c .before .before .before .before .args .width * (length (now (c .before .before .before .before .args .samples)) / 8) ≤ 5 * 40
 product c =
-    let codable = encode-says _ (c .before .before .before .before .args .law) _ _ _ (fit c) in
+    let codable = encode-says _ (c .before .before .before .before .args .law) _ _ _ (fit c) .1 in
     mul-le-mul (codable .pair .most) (codable .groups .high)
 
 encode-number-requires : tie.Need-encode-number-requires
@@ -49,7 +49,7 @@ add-octets : tie.Need-add-octets
 add-octets c = omega (arith, product c)
 
 encode-into-requires : tie.Need-encode-into-requires
-encode-into-requires c κs = encode-says _ (c .before .before .before .before .before .args .law) _ _ _ (fit (c .before))
+encode-into-requires c κs = encode-says _ (c .before .before .before .before .before .args .law) _ _ _ (fit (c .before)) .1
 
 same-length : tie.Need-same-length
 same-length c = search needs

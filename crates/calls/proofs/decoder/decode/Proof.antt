@@ -37,7 +37,7 @@ returns c =
     }
 
 shared-slice-read-wide : tie.Need-shared-slice-read-wide
-shared-slice-read-wide c = omega (arith, decode-says _ (c .before .before .before .before .before .args .law) _ _ (fit (c .before)) .sound .long)
+shared-slice-read-wide c = omega (arith, decode-says _ (c .before .before .before .before .before .args .law) _ _ (fit (c .before)) .1 .sound .long)
 
 wide-requires : tie.Need-wide-requires
 wide-requires c κs = search needs
@@ -46,7 +46,7 @@ mul-octets : tie.Need-mul-octets
 mul-octets c = search needs
 
 decode-into-requires : tie.Need-decode-into-requires
-decode-into-requires c κs = decode-says _ (c .before .before .before .before .before .before .before .args .law) _ _ (fit (c .before .before .before))
+decode-into-requires c κs = decode-says _ (c .before .before .before .before .before .before .before .args .law) _ _ (fit (c .before .before .before)) .1
 
 same-length : tie.Need-same-length
 same-length c = search needs
