@@ -2,13 +2,14 @@
 -- Assumes nothing.
 use mathlib.Core.Path.{_≡_, refl, sym, ap, _∙_}
 use mathlib.Core.List.{List, [], _∷_, _++_}
-use Prim.Native.Nat.{ℕ, zero, suc, _+_, _*_, _/_, _<_}
-use native.Mathlib.Nat.{zero-mul, suc-mul, add-comm, mul-comm}
+use Prim.Native.Nat.{ℕ, zero, suc, _+_, _*_, _/_, _≤_, _<_}
+use native.Mathlib.Nat.{zero-mul, suc-mul, add-comm, mul-comm, mul-le-mul}
 use native.Mathlib.Omega.{arith}
 use lib.ListN.{length, getD, drop, length-append}
 use Rattle.lists.proofs.Tables.{length-tabulate, getD-tabulate}
-use Rattle.frame.specs.Format.{frameLength}
+use Rattle.frame.specs.Format.{mostGroups, frameLength}
 use Rattle.frame.specs.Planes.{gather, octetAt, plane, planes, frameOf}
+use Rattle.frame.specs.Sound.{Sound}
 
 pub plane-length : (g b : ℕ) (codewords : List ℕ) → length (plane g b codewords) ≡ g
 unfolding plane
@@ -27,3 +28,11 @@ planes-length g (suc b) codewords =
 pub frame-length : (x y : ℕ) (codewords : List ℕ) → length (frameOf x y codewords) ≡ frameLength x (length codewords / 8)
 unfolding frameOf frameLength
 frame-length x y codewords = simp planes-length (omega arith)
+
+-- "202 at most": so many octets are room enough for any frame
+pub length-most : {x g : ℕ} → x ≤ 5 → g ≤ mostGroups → frameLength x g ≤ 202
+unfolding frameLength
+length-most wide many = omega (arith, mul-le-mul wide many)
+
+pub sound-most : {frame : List ℕ} → Sound frame → length frame ≤ 202
+sound-most s = rw (s .whole) (length-most (s .width .high) (s .groups .high))
