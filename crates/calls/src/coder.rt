@@ -1,15 +1,19 @@
 // encode(state, law, width, samples, out)
 ghost use mathlib.Core.Path.{_≡_};
 ghost use mathlib.Core.List.{_++_};
-ghost use Prim.Native.Nat.{_≤_, _<_};
+ghost use Prim.Native.Nat.{_*_, _≤_, _<_};
 ghost use lib.ListN.{length, drop};
 ghost use Rattle.state.specs.InRange.{InRange};
 ghost use Rattle.sample.specs.Pair.{Pair};
+ghost use Rattle.frame.specs.Format.{group, mostGroups};
 ghost use Rattle.calls.specs.Encode.{encodeNumber, Encodes};
 ghost use Rattle.calls.specs.Inner.{Codable, CodesAll, CodesFrame};
 use crate::Coded;
 use crate::Reply;
 use crate::replies::reply_of;
+use frame::format::GROUP;
+use frame::format::HEADER_LENGTH;
+use frame::format::MOST_SAMPLES;
 use frame::format::bad_count;
 use frame::format::bad_pair;
 use frame::whole::write_frame;
@@ -28,7 +32,7 @@ pub fn encode(s: State, law: u8, width: u8, samples: &[u8], out: &mut [u8]) -> C
             state: s,
         };
     }
-    let octets = 2 + (width as usize) * (samples.len() / 8);
+    let octets = HEADER_LENGTH + (width as usize) * (samples.len() / GROUP);
     let next = encode_into(s, law, width, samples, out);
     Coded {
         reply: Reply::Done,
@@ -52,7 +56,7 @@ fn encode_number(s: State, law: u8, width: u8, n: usize, room: usize) -> u8
     if bad_count(n) {
         return 2;
     }
-    if room < 2 + (width as usize) * (n / 8) {
+    if room < HEADER_LENGTH + (width as usize) * (n / GROUP) {
         return 3;
     }
     0
@@ -86,8 +90,8 @@ fn encode_all(s: State, law: u8, width: u8, samples: &[u8], codewords: &mut [u8]
     state
 }
 
-fn blank() -> [u8; 320]
-    ensures { λ r. ⌜ length r ≡ 320 ⌝ }
+fn blank() -> [u8; MOST_SAMPLES]
+    ensures { λ r. ⌜ length r ≡ mostGroups * group ⌝ }
 {
-    [0u8; 320]
+    [0u8; MOST_SAMPLES]
 }

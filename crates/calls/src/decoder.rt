@@ -7,6 +7,8 @@ ghost use Rattle.calls.specs.Inner.{Playable, PlaysFrame};
 use crate::Heard;
 use crate::Reply;
 use crate::replies::reply_of;
+use frame::format::GROUP;
+use frame::format::HEADER_LENGTH;
 use frame::format::wrong_with;
 use frame::planes::codeword_at;
 use frame::whole::wide;
@@ -31,7 +33,7 @@ pub fn decode(s: State, law: u8, frame: &[u8], out: &mut [u8]) -> Heard
             state: s,
         };
     }
-    let octets = 8 * wide(frame[1]);
+    let octets = GROUP * wide(frame[1]);
     let played = decode_into(s, law, frame, out);
     let next = played.state;
     Heard {
@@ -58,7 +60,7 @@ fn decode_number(s: State, law: u8, frame: &[u8], room: usize) -> u8
     if frame[0] % 8 != s.core {
         return 7;
     }
-    if room < 8 * wide(frame[1]) {
+    if room < GROUP * wide(frame[1]) {
         return 3;
     }
     0
@@ -74,8 +76,8 @@ fn decode_into(s: State, law: u8, frame: &[u8], out: &mut [u8]) -> Played
     let mut state = s;
     let mut moved = 0;
     let mut k = 0;
-    while k < 8 * g {
-        let d = decode_sample(state, law, x, codeword_at(&frame[2..], x, g, k));
+    while k < GROUP * g {
+        let d = decode_sample(state, law, x, codeword_at(&frame[HEADER_LENGTH..], x, g, k));
         out[k] = d.byte;
         moved += d.moved as usize;
         let next = d.state;

@@ -4,11 +4,22 @@ ghost use Prim.Native.Nat.{_<_};
 ghost use Rattle.frame.specs.Format.{head, badPair, badGroups, badCount};
 ghost use Rattle.frame.specs.Wrong.{wrongWith};
 
+// The limits of specs/Format.antt
+pub const EDITION: u8 = 1;
+
+pub const HEADER_LENGTH: usize = 2;
+
+pub const GROUP: usize = 8;
+
+pub const MOST_GROUPS: u8 = 40;
+
+pub const MOST_SAMPLES: usize = MOST_GROUPS as usize * GROUP;
+
 pub fn header(x: u8, y: u8) -> u8
     requires { ⌜ (x < 8) × (y < 8) ⌝ }
     ensures { λ r. ⌜ r ≡ head x y ⌝ }
 {
-    64 + x * 8 + y
+    (EDITION << 6) + x * 8 + y
 }
 
 pub fn bad_pair(x: u8, y: u8) -> bool
@@ -20,25 +31,25 @@ pub fn bad_pair(x: u8, y: u8) -> bool
 pub fn bad_groups(g: u8) -> bool
     ensures { λ r. ⌜ r ≡ badGroups g ⌝ }
 {
-    (g < 1) | (40 < g)
+    (g < 1) | (MOST_GROUPS < g)
 }
 
 pub fn bad_count(n: usize) -> bool
     ensures { λ r. ⌜ r ≡ badCount n ⌝ }
 {
-    (0 < n % 8) | (n < 8) | (320 < n)
+    (0 < n % GROUP) | (n < GROUP) | (MOST_SAMPLES < n)
 }
 
 // The number of the first row that applies to the frame by itself, 0 where none does.
 pub fn wrong_with(frame: &[u8]) -> u8
     ensures { λ r. ⌜ r ≡ wrongWith (now (frame .entry)) ⌝ }
 {
-    if frame.len() < 2 {
+    if frame.len() < HEADER_LENGTH {
         return 5;
     }
     let first = frame[0];
     let g = frame[1];
-    if first >> 6 != 1 {
+    if first >> 6 != EDITION {
         return 5;
     }
     let x = (first >> 3) % 8;
@@ -48,7 +59,7 @@ pub fn wrong_with(frame: &[u8]) -> u8
     if bad_groups(g) {
         return 2;
     }
-    if frame.len() != 2 + (x as usize) * (g as usize) {
+    if frame.len() != HEADER_LENGTH + (x as usize) * (g as usize) {
         return 6;
     }
     0

@@ -3,9 +3,11 @@ ghost use mathlib.Core.Path.{_≡_};
 ghost use mathlib.Core.List.{_++_};
 ghost use Prim.Native.Nat.{_+_, _*_, _/_, _≤_, _<_};
 ghost use lib.ListN.{length, drop};
+ghost use Rattle.frame.specs.Format.{group};
 ghost use Rattle.frame.specs.Planes.{gather, plane, planes};
 ghost use Rattle.frame.specs.Read.{codewordAt};
 ghost use Rattle.frame.specs.Shifted.{Shifted};
+use crate::format::GROUP;
 
 // What is there, one place to the left, with bit b of c behind it
 fn shift_in(there: u8, b: u8, c: u8) -> u8
@@ -17,12 +19,12 @@ fn shift_in(there: u8, b: u8, c: u8) -> u8
 
 // Bit b of the eight codewords from `at` on, the first in the most significant place
 fn octet(codewords: &[u8], at: usize, b: u8) -> u8
-    requires { ⌜ (at + 8 ≤ length (now codewords)) × (b < 8) ⌝ }
-    ensures { λ r. ⌜ r ≡ gather 8 b (drop at (now (codewords .entry))) 0 ⌝ }
+    requires { ⌜ (at + group ≤ length (now codewords)) × (b < 8) ⌝ }
+    ensures { λ r. ⌜ r ≡ gather group b (drop at (now (codewords .entry))) 0 ⌝ }
 {
     let mut there = 0;
     let mut i = 0;
-    while i < 8 {
+    while i < GROUP {
         there = shift_in(there, b, codewords[at + i]);
         i += 1;
     }
@@ -31,23 +33,23 @@ fn octet(codewords: &[u8], at: usize, b: u8) -> u8
 
 // The plane of bit b, an octet for each eight codewords
 fn write_plane(codewords: &[u8], b: u8, out: &mut [u8])
-    requires { ⌜ (length (now codewords) / 8 ≤ length (now out)) × (b < 8) ⌝ }
-    ensures { λ _. ⌜ now (out .exit) ≡ plane (length (now (codewords .entry)) / 8) b (now (codewords .entry)) ++ drop (length (now (codewords .entry)) / 8) (now (out .entry)) ⌝ }
+    requires { ⌜ (length (now codewords) / group ≤ length (now out)) × (b < 8) ⌝ }
+    ensures { λ _. ⌜ now (out .exit) ≡ plane (length (now (codewords .entry)) / group) b (now (codewords .entry)) ++ drop (length (now (codewords .entry)) / group) (now (out .entry)) ⌝ }
 {
-    let g = codewords.len() / 8;
+    let g = codewords.len() / GROUP;
     let mut j = 0;
     while j < g {
-        out[j] = octet(codewords, j * 8, b);
+        out[j] = octet(codewords, j * GROUP, b);
         j += 1;
     }
 }
 
 // The planes of x bits, the sign bits first
 pub fn write_planes(codewords: &[u8], x: u8, out: &mut [u8])
-    requires { ⌜ (x * (length (now codewords) / 8) ≤ length (now out)) × (x ≤ 8) ⌝ }
-    ensures { λ _. ⌜ now (out .exit) ≡ planes (length (now (codewords .entry)) / 8) x (now (codewords .entry)) ++ drop (x * (length (now (codewords .entry)) / 8)) (now (out .entry)) ⌝ }
+    requires { ⌜ (x * (length (now codewords) / group) ≤ length (now out)) × (x ≤ 8) ⌝ }
+    ensures { λ _. ⌜ now (out .exit) ≡ planes (length (now (codewords .entry)) / group) x (now (codewords .entry)) ++ drop (x * (length (now (codewords .entry)) / group)) (now (out .entry)) ⌝ }
 {
-    let g = codewords.len() / 8;
+    let g = codewords.len() / GROUP;
     let mut b = x;
     let mut at = 0;
     while 0 < b {
@@ -59,13 +61,13 @@ pub fn write_planes(codewords: &[u8], x: u8, out: &mut [u8])
 
 // The codeword of sample k, from x planes of g octets
 pub fn codeword_at(body: &[u8], x: u8, g: usize, k: usize) -> u8
-    requires { ⌜ (x ≤ 8) × (k / 8 < g) × (x * g ≤ length (now body)) ⌝ }
+    requires { ⌜ (x ≤ 8) × (k / group < g) × (x * g ≤ length (now body)) ⌝ }
     ensures { λ r. ⌜ r ≡ codewordAt x g (now (body .entry)) k ⌝ }
 {
-    let place = (7 - k % 8) as u8;
+    let place = (7 - k % GROUP) as u8;
     let mut there = 0;
     let mut left = x;
-    let mut at = k / 8;
+    let mut at = k / GROUP;
     while 0 < left {
         there = shift_in(there, place, body[at]);
         at += g;
