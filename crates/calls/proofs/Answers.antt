@@ -15,7 +15,7 @@ use Rattle.lists.specs.Run.{outs}
 use Rattle.lists.proofs.Runs.{outs-length}
 use Rattle.state.specs.declared.State.{State}
 use Rattle.state.specs.Range.{inRange}
-use Rattle.frame.specs.Format.{frameLength, editionOf, badPair, badGroups, badCount}
+use Rattle.frame.specs.Format.{headerLength, group, editionOf, frameLength, badPair, badGroups, badCount}
 use Rattle.frame.specs.Read.{frameWidth, frameCore, frameGroups}
 use Rattle.frame.specs.Wrong.{wrongWith}
 use Rattle.calls.specs.Reply.{badLaw}
@@ -34,7 +34,7 @@ module _ {A : Type 0} (n : ℕ) (a b : A) where
 wrong-small : (frame : List ℕ) → wrongWith frame ≤ 9
 unfolding wrongWith
 wrong-small frame =
-    pick-le (ltb (length frame) 2) (omega arith)
+    pick-le (ltb (length frame) headerLength) (omega arith)
     (pick-le (eqb (editionOf (getD frame 0 0)) 1)
     (pick-le (badPair (frameWidth frame) (frameCore frame)) (omega arith)
     (pick-le (badGroups (frameGroups frame)) (omega arith)
@@ -48,7 +48,7 @@ encode-small s LAW width n room =
     (pick-le (badLaw LAW) (omega arith)
     (pick-le (badPair width (s .core)) (omega arith)
     (pick-le (badCount n) (omega arith)
-    (pick-le (ltb room (frameLength width (n / 8))) (omega arith) (omega arith)))))
+    (pick-le (ltb room (frameLength width (n / group))) (omega arith) (omega arith)))))
     (omega arith)
 
 pub decode-small : (s : State) (LAW : ℕ) (frame : List ℕ) (room : ℕ) → decodeNumber s LAW frame room ≤ 9
@@ -58,7 +58,7 @@ decode-small s LAW frame room =
     (pick-le (badLaw LAW) (omega arith)
     (pick-le (eqb (wrongWith frame) 0)
     (pick-le (eqb (frameCore frame) (s .core))
-    (pick-le (ltb room (8 * frameGroups frame)) (omega arith) (omega arith))
+    (pick-le (ltb room (group * frameGroups frame)) (omega arith) (omega arith))
     (omega arith))
     (wrong-small frame)))
     (omega arith)

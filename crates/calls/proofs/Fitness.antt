@@ -16,7 +16,7 @@ use Rattle.state.specs.Range.{inRange}
 use Rattle.state.specs.InRange.{InRange}
 use Rattle.state.proofs.Ranges.{range-says, range-of}
 use Rattle.sample.specs.Pair.{Pair}
-use Rattle.frame.specs.Format.{frameLength, badPair, badCount}
+use Rattle.frame.specs.Format.{group, frameLength, badPair, badCount}
 use Rattle.frame.specs.Read.{frameWidth, frameCore, frameGroups}
 use Rattle.frame.specs.Wrong.{wrongWith}
 use Rattle.frame.specs.Sound.{Sound}
@@ -36,7 +36,7 @@ module _ (s : State) (LAW : ℕ) where
   pub encode-says : (width n room : ℕ) → encodeNumber s LAW width n room ≡ 0 → (LAW ≤ 1) × Codable s width n room
   unfolding encodeNumber badLaw
   encode-says width n room e =
-      let short = ltb room (frameLength width (n / 8)) in
+      let short = ltb room (frameLength width (n / group)) in
       let row2 : ℕ = pick (badCount n) 2 (pick short 3 0) in
       let row1 : ℕ = pick (badPair width (s .core)) 1 row2 in
       let a = held (inRange s) 4 (pick (badLaw LAW) 9 row1) (omega arith) e in
@@ -52,7 +52,7 @@ module _ (s : State) (LAW : ℕ) where
           pair = record { core = pair .1 .low; most = pair .1 .high };
           whole = count .0;
           groups = count .1;
-          space = ltb-false room (frameLength width (n / 8)) (f .0);
+          space = ltb-false room (frameLength width (n / group)) (f .0);
         },
       )
 
@@ -65,7 +65,7 @@ module _ (s : State) (LAW : ℕ) where
   pub decode-says : (frame : List ℕ) (room : ℕ) → decodeNumber s LAW frame room ≡ 0 → (LAW ≤ 1) × Playable s frame room
   unfolding decodeNumber badLaw
   decode-says frame room e =
-      let short = ltb room (8 * frameGroups frame) in
+      let short = ltb room (group * frameGroups frame) in
       let row7 : ℕ = pick (eqb (frameCore frame) (s .core)) (pick short 3 0) 7 in
       let rows : ℕ = pick (eqb (wrongWith frame) 0) row7 (wrongWith frame) in
       let a = held (inRange s) 4 (pick (badLaw LAW) 9 rows) (omega arith) e in
@@ -78,7 +78,7 @@ module _ (s : State) (LAW : ℕ) where
           range = range-says s (a .0);
           sound = sound-says frame (c .0);
           core = eqb-true (frameCore frame) (s .core) (d .0);
-          space = ltb-false room (8 * frameGroups frame) (f .0);
+          space = ltb-false room (group * frameGroups frame) (f .0);
         },
       )
 

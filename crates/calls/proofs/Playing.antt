@@ -20,6 +20,7 @@ use Rattle.sample.specs.Pair.{Pair}
 use Rattle.sample.specs.Decode.{SP, SD, moved, decodeOf}
 use Rattle.sample.proofs.Cores.{pair-width}
 use Rattle.sample.proofs.Tracks.{decode-in-range, decode-core}
+use Rattle.frame.specs.Format.{group}
 use Rattle.frame.specs.Read.{frameWidth, frameCore, frameGroups, received}
 use Rattle.frame.specs.Sound.{Sound}
 use Rattle.frame.proofs.Received.{received-length, received-short}
@@ -39,7 +40,7 @@ frame-pair s frame sound core = record { core = rw core at (sound .width .low); 
 
 module _ (s : State) (LAW : ℕ) (frame before : List ℕ) where
   abbrev n : ℕ
-  n = 8 * frameGroups frame
+  n = group * frameGroups frame
 
   pub record Playing (k : ℕ) (t : State) (sum : ℕ) (out : List ℕ) : Type 0 where
     pub range : InRange t

@@ -8,27 +8,28 @@ use native.Mathlib.Omega.{arith}
 use lib.ListN.{length, getD, drop}
 use lib.Pow.{pow-mono}
 use lib.Seq.{drop-drop, getD-drop}
+use Rattle.frame.specs.Format.{group}
 use Rattle.frame.specs.Planes.{bit}
 use Rattle.frame.specs.Read.{collect, codewordAt}
 use Rattle.frame.specs.Shifted.{Shifted}
 
 collect-next : (n g k : ℕ) (body : List ℕ) (m there : ℕ)
-    → collect (suc n) g k (drop m body) there ≡ collect n g k (drop (m + g) body) (there * 2 + bit (7 - k % 8) (getD body (m + k / 8) 0))
+    → collect (suc n) g k (drop m body) there ≡ collect n g k (drop (m + g) body) (there * 2 + bit (7 - k % group) (getD body (m + k / group) 0))
 unfolding collect
-collect-next n g k body m there = rw (drop-drop g m body, getD-drop m body (k / 8) 0)
+collect-next n g k body m there = rw (drop-drop g m body, getD-drop m body (k / group) 0)
 
 module _ (body : List ℕ) (x g k : ℕ) where
   -- `left` planes are left, and `at` is the place of the sample's octet in the next one
   pub record Collecting (left at there : ℕ) : Type 0 where
     pub few : left ≤ x
-    pub base : k / 8 ≤ at
-    pub room : at - k / 8 + left * g ≡ x * g
-    pub rest : collect left g k (drop (at - k / 8) body) there ≡ collect x g k body 0
+    pub base : k / group ≤ at
+    pub room : at - k / group + left * g ≡ x * g
+    pub rest : collect left g k (drop (at - k / group) body) there ≡ collect x g k body 0
     pub short : there < 2 ^ (x - left)
 
-  pub collecting-none : Collecting x (k / 8) 0
+  pub collecting-none : Collecting x (k / group) 0
   collecting-none =
-      let from : k / 8 - k / 8 ≡ 0 = omega arith in
+      let from : k / group - k / group ≡ 0 = omega arith in
       let places : x - x ≡ 0 = omega arith in
       record { few = omega arith; base = omega arith; room = omega arith; rest = rw from; short = rw places (omega arith) }
 
@@ -39,7 +40,7 @@ module _ (body : List ℕ) (x g k : ℕ) where
         let up : left ≡ suc (left - 1) = omega arith in
         ap (λ (n : ℕ). n * g) up ∙ suc-mul (left - 1) g
 
-    pub collecting-within : k / 8 < g → at < x * g
+    pub collecting-within : k / group < g → at < x * g
     collecting-within h = omega (arith, plane-more, q .room, q .base)
 
     pub collecting-plane : g ≤ x * g
@@ -48,16 +49,16 @@ module _ (body : List ℕ) (x g k : ℕ) where
     pub collecting-room : x ≤ 8 → there < 128
     collecting-room h = omega (arith, q .short, pow-mono {i = x - left} {j = 7} (omega (arith, q .few)))
 
-    pub collecting-more : {r : ℕ} → Shifted there (7 - k % 8) (getD body at 0) r → Collecting (left - 1) (at + g) r
+    pub collecting-more : {r : ℕ} → Shifted there (7 - k % group) (getD body at 0) r → Collecting (left - 1) (at + g) r
     collecting-more {r} s =
         let few = q .few in
         let base = q .base in
         let up : left ≡ suc (left - 1) = omega arith in
-        let here : at - k / 8 + k / 8 ≡ at = omega arith in
-        let further : at - k / 8 + g ≡ at + g - k / 8 = omega arith in
+        let here : at - k / group + k / group ≡ at = omega arith in
+        let further : at - k / group + g ≡ at + g - k / group = omega arith in
         let wider : x - (left - 1) ≡ suc (x - left) = omega arith in
-        let step : collect (suc (left - 1)) g k (drop (at - k / 8) body) there ≡ collect x g k body 0 = sym (ap (λ (n : ℕ). collect n g k (drop (at - k / 8) body) there) up) ∙ q .rest in
-        let next = rw here at (collect-next (left - 1) g k body (at - k / 8) there) in
+        let step : collect (suc (left - 1)) g k (drop (at - k / group) body) there ≡ collect x g k body 0 = sym (ap (λ (n : ℕ). collect n g k (drop (at - k / group) body) there) up) ∙ q .rest in
+        let next = rw here at (collect-next (left - 1) g k body (at - k / group) there) in
         record {
           few = omega arith;
           base = omega arith;

@@ -5,7 +5,7 @@ use mathlib.Core.List.{List, _∷_}
 use Prim.Native.Nat.{ℕ, _*_, _/_, _<_}
 use native.Mathlib.Omega.{arith}
 use lib.ListN.{length, getD, take}
-use Rattle.frame.specs.Format.{edition, head, editionOf, widthOf, coreOf}
+use Rattle.frame.specs.Format.{edition, group, head, editionOf, widthOf, coreOf}
 use Rattle.frame.specs.Planes.{planes, frameOf}
 use Rattle.frame.specs.Read.{frameWidth, frameCore, frameGroups, body, thinned}
 
@@ -50,9 +50,9 @@ unfolding frameWidth frameCore frameGroups body
 fields wide deep g octets = record { first = head-edition wide deep; width = head-width wide deep; core = head-core wide deep; groups = refl; rest = refl }
 
 pub written-fields : {x y : ℕ} → x < 8 → y < 8 → (codewords : List ℕ)
-    → Fields x y (length codewords / 8) (planes (length codewords / 8) x codewords) (frameOf x y codewords)
+    → Fields x y (length codewords / group) (planes (length codewords / group) x codewords) (frameOf x y codewords)
 unfolding frameOf
-written-fields {x} wide deep codewords = fields wide deep (length codewords / 8) (planes (length codewords / 8) x codewords)
+written-fields {x} wide deep codewords = fields wide deep (length codewords / group) (planes (length codewords / group) x codewords)
 
 pub thinned-fields : {w : ℕ} → w < 8 → (frame : List ℕ)
     → Fields w (frameCore frame) (frameGroups frame) (take (w * frameGroups frame) (body frame)) (thinned w frame)

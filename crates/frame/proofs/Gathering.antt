@@ -9,6 +9,7 @@ use lib.Bits.{bitAnd, bitOr, and-mask, or-shifted}
 use lib.ListN.{getD, drop}
 use lib.Pow.{pow-mono}
 use lib.Seq.{drop-drop, getD-drop}
+use Rattle.frame.specs.Format.{group}
 use Rattle.frame.specs.Planes.{bit, gather}
 use Rattle.frame.specs.Shifted.{Shifted}
 
@@ -27,31 +28,31 @@ gather-next n b codewords m there = rw (drop-drop 1 m codewords, getD-drop m cod
 
 module _ (codewords : List ℕ) (at b : ℕ) where
   pub record Gathering (i there : ℕ) : Type 0 where
-    pub few : i ≤ 8
-    pub rest : gather (8 - i) b (drop (at + i) codewords) there ≡ gather 8 b (drop at codewords) 0
+    pub few : i ≤ group
+    pub rest : gather (group - i) b (drop (at + i) codewords) there ≡ gather group b (drop at codewords) 0
     pub short : there < 2 ^ i
 
   pub gathering-none : Gathering 0 0
   gathering-none = record { few = omega arith; rest = rw add-zero; short = omega arith }
 
   -- what is there has room for a bit more
-  pub gathering-room : {i there : ℕ} → Gathering i there → i < 8 → there < 128
+  pub gathering-room : {i there : ℕ} → Gathering i there → i < group → there < 128
   gathering-room {i} {there} g h = omega (arith, g .short, pow-mono {i = i} {j = 7} (omega arith))
 
-  pub gathering-more : {i there r : ℕ} → Gathering i there → i < 8 → Shifted there b (getD codewords (at + i) 0) r → Gathering (i + 1) r
+  pub gathering-more : {i there r : ℕ} → Gathering i there → i < group → Shifted there b (getD codewords (at + i) 0) r → Gathering (i + 1) r
   gathering-more {i} {there} {r} g h s =
-      let places : 8 - i ≡ suc (8 - (i + 1)) = omega arith in
+      let places : group - i ≡ suc (group - (i + 1)) = omega arith in
       let further : at + i + 1 ≡ at + (i + 1) = add-assoc at i 1 in
       let up : i + 1 ≡ suc i = omega arith in
       let step = rw places at (g .rest) in
       record {
         few = omega arith;
-        rest = rw (← further, s .is) (sym (gather-next (8 - (i + 1)) b codewords (at + i) there) ∙ step);
+        rest = rw (← further, s .is) (sym (gather-next (group - (i + 1)) b codewords (at + i) there) ∙ step);
         short = rw up (omega (arith, s .small, g .short, pow-suc 2 i));
       }
 
-  pub gathering-done : {i there : ℕ} → Gathering i there → 8 ≤ i → there ≡ gather 8 b (drop at codewords) 0
+  pub gathering-done : {i there : ℕ} → Gathering i there → group ≤ i → there ≡ gather group b (drop at codewords) 0
   unfolding gather
   gathering-done {i} {there} g h =
-      let all : 8 - i ≡ 0 = omega arith in
+      let all : group - i ≡ 0 = omega arith in
       rw all at (g .rest)

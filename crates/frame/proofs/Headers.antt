@@ -7,18 +7,19 @@ use native.Mathlib.Nat.{add-comm, zero-add, suc-add}
 use native.Mathlib.Omega.{arith}
 use lib.ListN.{length, getD, take, drop, set}
 use lib.Seq.{take-length, length-take-le}
+use Rattle.frame.specs.Format.{headerLength}
 
-pub header-stored : (d : List ℕ) (h g : ℕ) (e : List ℕ) → 2 ≤ length d → set (set (take 2 d ++ e) 0 h) 1 g ≡ h ∷ g ∷ e
+pub header-stored : (d : List ℕ) (h g : ℕ) (e : List ℕ) → headerLength ≤ length d → set (set (take headerLength d ++ e) 0 h) 1 g ≡ h ∷ g ∷ e
 header-stored [] h g e two = absurd (omega arith)
 header-stored (a ∷ []) h g e two = absurd (omega arith)
 header-stored (a ∷ b ∷ d) h g e two = refl
 
-pub two-more : (m : ℕ) → 2 + m ≡ suc (suc m)
+two-more : (m : ℕ) → headerLength + m ≡ suc (suc m)
 two-more m = omega arith
 
 -- a frame's first octets copied, and its header's first octet stored anew
-pub header-renewed : (frame : List ℕ) (m h : ℕ) (e : List ℕ) → 2 ≤ length frame
-    → set (take (2 + m) frame ++ e) 0 h ≡ (h ∷ getD frame 1 0 ∷ take m (drop 2 frame)) ++ e
+pub header-renewed : (frame : List ℕ) (m h : ℕ) (e : List ℕ) → headerLength ≤ length frame
+    → set (take (headerLength + m) frame ++ e) 0 h ≡ (h ∷ getD frame 1 0 ∷ take m (drop headerLength frame)) ++ e
 header-renewed [] m h e two = absurd (omega arith)
 header-renewed (a ∷ []) m h e two = absurd (omega arith)
 header-renewed (a ∷ b ∷ frame) m h e two = rw (two-more m)

@@ -7,7 +7,7 @@ use native.Mathlib.Nat.{mul-le-mul-right}
 use native.Mathlib.Omega.{arith}
 use lib.ListN.{length, length-take, length-drop}
 use Rattle.words.specs.Within.{Within}
-use Rattle.frame.specs.Format.{mostGroups, frameLength}
+use Rattle.frame.specs.Format.{group, mostGroups, frameLength}
 use Rattle.frame.specs.Planes.{frameOf}
 use Rattle.frame.specs.Read.{frameWidth, frameCore, frameGroups, body, thinned}
 use Rattle.frame.specs.Sound.{Sound}
@@ -28,7 +28,7 @@ fields-sound f core width groups whole =
       whole = rw (f .width, f .groups) whole;
     }
 
-pub written-sound : {x y : ℕ} → Within 2 4 y → Within y 5 x → (codewords : List ℕ) → Within 1 mostGroups (length codewords / 8)
+pub written-sound : {x y : ℕ} → Within 2 4 y → Within y 5 x → (codewords : List ℕ) → Within 1 mostGroups (length codewords / group)
     → Sound (frameOf x y codewords)
 written-sound {x} {y} core width codewords groups =
     fields-sound (written-fields (omega arith) (omega arith) codewords) core width groups (frame-length x y codewords)

@@ -9,6 +9,7 @@ use lib.ListN.{length, getD, drop, List·getD-append}
 use lib.Seq.{drop-at, getD-drop}
 use Rattle.words.specs.Notation.{_>>_}
 use Rattle.lists.proofs.Tables.{tabulate-same, tabulate-list}
+use Rattle.frame.specs.Format.{group}
 use Rattle.frame.specs.Planes.{bit, gather, plane, planes, frameOf}
 use Rattle.frame.specs.Read.{collect, codewordAt, codewords, received}
 use Rattle.frame.proofs.Bits.{bit-gone, bit-more}
@@ -37,35 +38,35 @@ gather-bit (suc n) b cws there (suc i) j h =
     gather-bit n b (drop 1 cws) more i j (omega arith) ∙ rw (getD-drop 1 cws i 0, next)
 
 -- the octet of sample k in the plane of bit b has that bit in the sample's place
-plane-bit : (g b : ℕ) (cws : List ℕ) (k : ℕ) → k < 8 * g → bit (7 - k % 8) (getD (plane g b cws) (k / 8) 0) ≡ bit b (getD cws k 0)
+plane-bit : (g b : ℕ) (cws : List ℕ) (k : ℕ) → k < group * g → bit (7 - k % group) (getD (plane g b cws) (k / group) 0) ≡ bit b (getD cws k 0)
 plane-bit g b cws k h =
-    let here : bit (7 - k % 8) (gather 8 b (drop (k / 8 * 8) cws) 0) ≡ bit b (getD (drop (k / 8 * 8) cws) (k % 8) 0) = gather-bit 8 b (drop (k / 8 * 8) cws) 0 (k % 8) (7 - k % 8) (omega arith) in
-    rw (plane-at g b cws (k / 8) (omega arith)) (here ∙ rw (getD-drop (k / 8 * 8) cws (k % 8) 0, div-add-mod' k 8))
+    let here : bit (7 - k % group) (gather group b (drop (k / group * group) cws) 0) ≡ bit b (getD (drop (k / group * group) cws) (k % group) 0) = gather-bit group b (drop (k / group * group) cws) 0 (k % group) (7 - k % group) (omega arith) in
+    rw (plane-at g b cws (k / group) (omega arith)) (here ∙ rw (getD-drop (k / group * group) cws (k % group) 0, div-add-mod' k group))
 
 -- of each codeword x planes give back the x lowest bits
-planes-collect : (x g k : ℕ) (cws : List ℕ) (there : ℕ) → k < 8 * g → collect x g k (planes g x cws) there ≡ there * 2 ^ x + getD cws k 0 % 2 ^ x
+planes-collect : (x g k : ℕ) (cws : List ℕ) (there : ℕ) → k < group * g → collect x g k (planes g x cws) there ≡ there * 2 ^ x + getD cws k 0 % 2 ^ x
 unfolding collect planes
 planes-collect zero g k cws there h = omega arith
 planes-collect (suc x) g k cws there h =
-    let group : k / 8 < length (plane g x cws) = rw (plane-length g x cws) (omega arith) in
+    let place : k / group < length (plane g x cws) = rw (plane-length g x cws) (omega arith) in
     let more : ℕ = there * 2 + bit x (getD cws k 0) in
-    rw (drop-at (plane g x cws) (planes g x cws) g (plane-length g x cws), List·getD-append (plane g x cws) (planes g x cws) 0 (k / 8) group, plane-bit g x cws k h)
+    rw (drop-at (plane g x cws) (planes g x cws) g (plane-length g x cws), List·getD-append (plane g x cws) (planes g x cws) 0 (k / group) place, plane-bit g x cws k h)
     (planes-collect x g k cws more h ∙ bit-more x (getD cws k 0) there)
 
-pub codeword-return : (x g : ℕ) (cws : List ℕ) (k : ℕ) → k < 8 * g → codewordAt x g (planes g x cws) k ≡ getD cws k 0 % 2 ^ x
+pub codeword-return : (x g : ℕ) (cws : List ℕ) (k : ℕ) → k < group * g → codewordAt x g (planes g x cws) k ≡ getD cws k 0 % 2 ^ x
 unfolding codewordAt
 codeword-return x g cws k h = planes-collect x g k cws 0 h ∙ omega (arith, zero-mul (2 ^ x))
 
 -- codewords of x bits are given back whole
-pub codewords-return : (x g : ℕ) (cws : List ℕ) → length cws ≡ 8 * g → ((k : ℕ) → k < length cws → getD cws k 0 < 2 ^ x) → codewords x g (planes g x cws) ≡ cws
+pub codewords-return : (x g : ℕ) (cws : List ℕ) → length cws ≡ group * g → ((k : ℕ) → k < length cws → getD cws k 0 < 2 ^ x) → codewords x g (planes g x cws) ≡ cws
 unfolding codewords
 codewords-return x g cws all short =
-    tabulate-same (8 * g) (codewordAt x g (planes g x cws)) (λ k. getD cws k 0) (λ k h. codeword-return x g cws k h ∙ mod-eq-of-lt (short k (rw all h)))
+    tabulate-same (group * g) (codewordAt x g (planes g x cws)) (λ k. getD cws k 0) (λ k h. codeword-return x g cws k h ∙ mod-eq-of-lt (short k (rw all h)))
     ∙ rw (← all) (tabulate-list cws 0)
 
-pub received-return : {x y : ℕ} → x < 8 → y < 8 → (cws : List ℕ) → length cws / 8 * 8 ≡ length cws → ((k : ℕ) → k < length cws → getD cws k 0 < 2 ^ x)
+pub received-return : {x y : ℕ} → x < 8 → y < 8 → (cws : List ℕ) → length cws / group * group ≡ length cws → ((k : ℕ) → k < length cws → getD cws k 0 < 2 ^ x)
     → received (frameOf x y cws) ≡ cws
 unfolding received
 received-return {x} wide deep cws whole short =
     let f = written-fields wide deep cws in
-    rw (f .width, f .groups, f .rest) (codewords-return x (length cws / 8) cws (omega arith) short)
+    rw (f .width, f .groups, f .rest) (codewords-return x (length cws / group) cws (omega arith) short)

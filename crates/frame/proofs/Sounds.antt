@@ -11,7 +11,7 @@ use borrow.Author.Tests.{ltb-false, le-ltb, eqb-true, eqb-false, eq-eqb}
 use Rattle.words.specs.Notation.{pick}
 use Rattle.words.specs.Within.{Within}
 use Rattle.words.proofs.Pick.{passed, held}
-use Rattle.frame.specs.Format.{edition, headerLength, mostGroups, editionOf, frameLength, badPair, badGroups, badCount}
+use Rattle.frame.specs.Format.{edition, headerLength, group, mostGroups, editionOf, frameLength, badPair, badGroups, badCount}
 use Rattle.frame.specs.Read.{frameWidth, frameCore, frameGroups}
 use Rattle.frame.specs.Wrong.{wrongWith}
 use Rattle.frame.specs.Sound.{Sound}
@@ -47,22 +47,22 @@ unfolding badGroups
 groups-of g w = simp (le-ltb g 1 (w .low), le-ltb mostGroups g (w .high))
 
 -- a count that is not bad is that of 1 to 40 whole groups
-pub count-says : (n : ℕ) → badCount n ≡ false → (n / 8 * 8 ≡ n) × Within 1 mostGroups (n / 8)
+pub count-says : (n : ℕ) → badCount n ≡ false → (n / group * group ≡ n) × Within 1 mostGroups (n / group)
 unfolding badCount
 count-says n e =
-    let ab = neither-left (ltb 0 (n % 8) || ltb n 8) (ltb 320 n) e in
-    let rest : n % 8 ≤ 0 = ltb-false 0 (n % 8) (neither-left (ltb 0 (n % 8)) (ltb n 8) ab) in
-    let least : 8 ≤ n = ltb-false n 8 (neither-right (ltb 0 (n % 8)) (ltb n 8) ab) in
-    let most : n ≤ 320 = ltb-false 320 n (neither-right (ltb 0 (n % 8) || ltb n 8) (ltb 320 n) e) in
+    let ab = neither-left (ltb 0 (n % group) || ltb n group) (ltb (mostGroups * group) n) e in
+    let rest : n % group ≤ 0 = ltb-false 0 (n % group) (neither-left (ltb 0 (n % group)) (ltb n group) ab) in
+    let least : group ≤ n = ltb-false n group (neither-right (ltb 0 (n % group)) (ltb n group) ab) in
+    let most : n ≤ mostGroups * group = ltb-false (mostGroups * group) n (neither-right (ltb 0 (n % group) || ltb n group) (ltb (mostGroups * group) n) e) in
     (omega arith, omega arith)
 
-pub count-of : (n : ℕ) → n / 8 * 8 ≡ n → Within 1 mostGroups (n / 8) → badCount n ≡ false
+pub count-of : (n : ℕ) → n / group * group ≡ n → Within 1 mostGroups (n / group) → badCount n ≡ false
 unfolding badCount
 count-of n whole w =
-    let rest : n % 8 ≤ 0 = omega arith in
-    let least : 8 ≤ n = omega arith in
-    let most : n ≤ 320 = omega arith in
-    simp (le-ltb 0 (n % 8) rest, le-ltb n 8 least, le-ltb 320 n most)
+    let rest : n % group ≤ 0 = omega arith in
+    let least : group ≤ n = omega arith in
+    let most : n ≤ mostGroups * group = omega arith in
+    simp (le-ltb 0 (n % group) rest, le-ltb n group least, le-ltb (mostGroups * group) n most)
 
 module _ (frame : List ℕ) where
   pub sound-of : Sound frame → wrongWith frame ≡ 0
@@ -77,15 +77,15 @@ module _ (frame : List ℕ) where
       let g = frameGroups frame in
       let long = eqb (length frame) (frameLength x g) in
       let rows : ℕ = pick (badPair x y) 1 (pick (badGroups g) 2 (pick long 0 6)) in
-      let row5 = passed (ltb (length frame) 2) 5 (pick (eqb (editionOf (getD frame 0 0)) 1) rows 5) (omega arith) e in
-      let row5′ = held (eqb (editionOf (getD frame 0 0)) 1) 5 rows (omega arith) (row5 .1) in
+      let row5 = passed (ltb (length frame) headerLength) 5 (pick (eqb (editionOf (getD frame 0 0)) edition) rows 5) (omega arith) e in
+      let row5′ = held (eqb (editionOf (getD frame 0 0)) edition) 5 rows (omega arith) (row5 .1) in
       let row1 = passed (badPair x y) 1 (pick (badGroups g) 2 (pick long 0 6)) (omega arith) (row5′ .1) in
       let row2 = passed (badGroups g) 2 (pick long 0 6) (omega arith) (row1 .1) in
       let row6 = held long 6 0 (omega arith) (row2 .1) in
       let pair = pair-says x y (row1 .0) in
       record {
-        long = ltb-false (length frame) 2 (row5 .0);
-        first = eqb-true (editionOf (getD frame 0 0)) 1 (row5′ .0);
+        long = ltb-false (length frame) headerLength (row5 .0);
+        first = eqb-true (editionOf (getD frame 0 0)) edition (row5′ .0);
         core = pair .0;
         width = pair .1;
         groups = groups-say g (row2 .0);

@@ -12,7 +12,7 @@ use lib.Seq.{take-all, take-take, take-append-add, getD-take}
 use Rattle.words.specs.Notation.{_>>_}
 use Rattle.lists.proofs.Parts.{drop-take, drop-map}
 use Rattle.lists.proofs.Tables.{tabulate-same, map-tabulate}
-use Rattle.frame.specs.Format.{widthOf, frameLength}
+use Rattle.frame.specs.Format.{headerLength, group, widthOf, frameLength}
 use Rattle.frame.specs.Planes.{bit, gather, octetAt, plane, planes, frameOf}
 use Rattle.frame.specs.Read.{collect, codewordAt, codewords, frameWidth, frameCore, frameGroups, body, received, thinned}
 use Rattle.frame.specs.Sound.{Sound}
@@ -37,7 +37,7 @@ module _ (b d : ℕ) where
 
   plane-shorter : (g : ℕ) (cws : List ℕ) → plane g b (shorter d cws) ≡ plane g (b + d) cws
   unfolding plane octetAt
-  plane-shorter g cws = tabulate-same g (octetAt b (shorter d cws)) (octetAt (b + d) cws) (λ j h. rw (drop-map (λ c. c >> d) (8 * j) cws) (gather-shorter 8 (drop (8 * j) cws) 0))
+  plane-shorter g cws = tabulate-same g (octetAt b (shorter d cws)) (octetAt (b + d) cws) (λ j h. rw (drop-map (λ c. c >> d) (group * j) cws) (gather-shorter group (drop (group * j) cws) 0))
 
 planes-shorter : (g w d : ℕ) (cws : List ℕ) → planes g w (shorter d cws) ≡ take (w * g) (planes g (w + d) cws)
 unfolding planes
@@ -58,7 +58,7 @@ pub frame-thinned : {w x y : ℕ} → w ≤ x → x < 8 → y < 8 → (cws : Lis
 unfolding thinned frameOf
 frame-thinned {w} {x} narrow wide deep cws =
     let f = written-fields wide deep cws in
-    rw (f .core, f .groups, f .rest, length-map cws (λ c. c >> (x - w)), planes-thinned (length cws / 8) narrow cws)
+    rw (f .core, f .groups, f .rest, length-map cws (λ c. c >> (x - w)), planes-thinned (length cws / group) narrow cws)
 
 -- thinning twice is thinning once
 pub thinned-thinned : {v w : ℕ} → v ≤ w → w < 8 → (frame : List ℕ) → thinned v (thinned w frame) ≡ thinned v frame
@@ -69,7 +69,7 @@ thinned-thinned {v} {w} less narrow frame =
     rw (f .core, f .groups, f .rest, take-take (v * frameGroups frame) (w * frameGroups frame) (body frame))
 
 -- a frame is its header and its planes
-whole-frame : (frame : List ℕ) → 2 ≤ length frame → frame ≡ getD frame 0 0 ∷ frameGroups frame ∷ body frame
+whole-frame : (frame : List ℕ) → headerLength ≤ length frame → frame ≡ getD frame 0 0 ∷ frameGroups frame ∷ body frame
 unfolding frameGroups body
 whole-frame [] h = absurd (omega arith)
 whole-frame (a ∷ []) h = absurd (omega arith)
@@ -79,8 +79,8 @@ pub thinned-same : (frame : List ℕ) → Sound frame → thinned (frameWidth fr
 unfolding thinned frameWidth frameCore body frameLength
 thinned-same frame s =
     let whole = s .whole in
-    let size : length (drop 2 frame) ≤ widthOf (getD frame 0 0) * frameGroups frame = simp length-drop (omega arith) in
-    rw (head-back (getD frame 0 0) (s .first), take-all (widthOf (getD frame 0 0) * frameGroups frame) (drop 2 frame) size) (sym (whole-frame frame (s .long)))
+    let size : length (drop headerLength frame) ≤ widthOf (getD frame 0 0) * frameGroups frame = simp length-drop (omega arith) in
+    rw (head-back (getD frame 0 0) (s .first), take-all (widthOf (getD frame 0 0) * frameGroups frame) (drop headerLength frame) size) (sym (whole-frame frame (s .long)))
 
 -- of x planes the last d give the d lowest bits
 module _ (g k : ℕ) where
@@ -88,26 +88,26 @@ module _ (g k : ℕ) where
   unfolding collect
   collect-above zero octets there = omega arith
   collect-above (suc d) octets there =
-      let b : ℕ = 7 - k % 8 in
-      let c : ℕ = getD octets (k / 8) 0 in
+      let b : ℕ = 7 - k % group in
+      let c : ℕ = getD octets (k / group) 0 in
       bit-gone d (collect (suc d) g k octets there) there b c (collect-above d (drop g octets) (there * 2 + bit b c))
 
   collect-shorter : (w d : ℕ) (octets : List ℕ) (there : ℕ) → collect (w + d) g k octets there >> d ≡ collect w g k octets there
   unfolding collect
   collect-shorter zero d octets there = rw (zero-add d) (collect-above d octets there)
-  collect-shorter (suc w) d octets there = rw (suc-add w d) (collect-shorter w d (drop g octets) (there * 2 + bit (7 - k % 8) (getD octets (k / 8) 0)))
+  collect-shorter (suc w) d octets there = rw (suc-add w d) (collect-shorter w d (drop g octets) (there * 2 + bit (7 - k % group) (getD octets (k / group) 0)))
 
   -- the planes behind the first w are not looked at
-  collect-take : k < 8 * g → (w : ℕ) (octets : List ℕ) (there : ℕ) → collect w g k (take (w * g) octets) there ≡ collect w g k octets there
+  collect-take : k < group * g → (w : ℕ) (octets : List ℕ) (there : ℕ) → collect w g k (take (w * g) octets) there ≡ collect w g k octets there
   unfolding collect
   collect-take within zero octets there = refl
   collect-take within (suc w) octets there =
       let places : suc w * g ≡ g + w * g = suc-mul w g ∙ add-comm (w * g) g in
-      let here : k / 8 < g + w * g = omega arith in
-      rw (places, drop-take g (w * g) octets, getD-take (g + w * g) octets (k / 8) 0 here)
-      (collect-take within w (drop g octets) (there * 2 + bit (7 - k % 8) (getD octets (k / 8) 0)))
+      let here : k / group < g + w * g = omega arith in
+      rw (places, drop-take g (w * g) octets, getD-take (g + w * g) octets (k / group) 0 here)
+      (collect-take within w (drop g octets) (there * 2 + bit (7 - k % group) (getD octets (k / group) 0)))
 
-  pub codeword-thinned : k < 8 * g → {w x : ℕ} → w ≤ x → (octets : List ℕ) → codewordAt w g (take (w * g) octets) k ≡ codewordAt x g octets k >> (x - w)
+  pub codeword-thinned : k < group * g → {w x : ℕ} → w ≤ x → (octets : List ℕ) → codewordAt w g (take (w * g) octets) k ≡ codewordAt x g octets k >> (x - w)
   unfolding codewordAt
   codeword-thinned within {w} {x} narrow octets =
       let places : w + (x - w) ≡ x = omega arith in
@@ -116,8 +116,8 @@ module _ (g k : ℕ) where
 pub codewords-thinned : (g : ℕ) {w x : ℕ} → w ≤ x → (octets : List ℕ) → codewords w g (take (w * g) octets) ≡ map (λ c. c >> (x - w)) (codewords x g octets)
 unfolding codewords
 codewords-thinned g {w} {x} narrow octets =
-    tabulate-same (8 * g) (codewordAt w g (take (w * g) octets)) (λ k. codewordAt x g octets k >> (x - w)) (λ k within. codeword-thinned g k within narrow octets)
-    ∙ sym (map-tabulate (λ c. c >> (x - w)) (8 * g) (codewordAt x g octets))
+    tabulate-same (group * g) (codewordAt w g (take (w * g) octets)) (λ k. codewordAt x g octets k >> (x - w)) (λ k within. codeword-thinned g k within narrow octets)
+    ∙ sym (map-tabulate (λ c. c >> (x - w)) (group * g) (codewordAt x g octets))
 
 pub received-thinned : {w : ℕ} (frame : List ℕ) → w ≤ frameWidth frame → received (thinned w frame) ≡ map (λ c. c >> (frameWidth frame - w)) (received frame)
 unfolding received

@@ -13,7 +13,7 @@ use Rattle.lists.specs.Run.{last, outs}
 use Rattle.state.specs.declared.State.{State}
 use Rattle.state.specs.InRange.{InRange}
 use Rattle.sample.specs.Pair.{Pair}
-use Rattle.frame.specs.Format.{mostGroups}
+use Rattle.frame.specs.Format.{group, mostGroups}
 use Rattle.frame.specs.Planes.{frameOf}
 use Rattle.frame.specs.Read.{frameWidth, frameCore, received, thinned}
 use Rattle.frame.specs.Sound.{Sound}
@@ -48,7 +48,7 @@ module _ (s : State) (LAW w : ℕ) (xs : List ℕ) (room : ℕ) (k : Codable s w
   pub frame-sound : Sound (encodedFrame s LAW w xs)
   unfolding encodedFrame cws
   frame-sound =
-      let groups : Within 1 mostGroups (length cws / 8) = rw counted (k .groups) in
+      let groups : Within 1 mostGroups (length cws / group) = rw counted (k .groups) in
       written-sound (k .range .cores) (record { low = k .pair .core; high = k .pair .most }) cws groups
 
   pub frame-width : frameWidth (encodedFrame s LAW w xs) ≡ w
@@ -62,7 +62,7 @@ module _ (s : State) (LAW w : ℕ) (xs : List ℕ) (room : ℕ) (k : Codable s w
   pub frame-received : received (encodedFrame s LAW w xs) ≡ encodedCodewords s LAW w xs
   unfolding encodedFrame encodedCodewords cws
   frame-received =
-      let whole : length cws / 8 * 8 ≡ length cws = rw counted (k .whole) in
+      let whole : length cws / group * group ≡ length cws = rw counted (k .whole) in
       received-return small-width small-core cws whole (codewords-short LAW w s (k .range) (k .pair) xs)
 
   -- a decoder at the encoder's state that is given the frame thinned to width v ends in the encoder's next state

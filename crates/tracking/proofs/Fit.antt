@@ -10,7 +10,7 @@ use Rattle.state.specs.declared.State.{State}
 use Rattle.state.specs.Reset.{resetOf}
 use Rattle.state.specs.InRange.{InRange}
 use Rattle.state.proofs.Ranges.{reset-in-range}
-use Rattle.frame.specs.Format.{frameLength}
+use Rattle.frame.specs.Format.{group, frameLength}
 use Rattle.frame.specs.Read.{frameWidth, frameCore, frameGroups, thinned}
 use Rattle.frame.specs.Sound.{Sound}
 use Rattle.frame.proofs.Fields.{written-fields, thinned-fields}
@@ -48,7 +48,7 @@ module _ (s : State) (w : Way) (i : InRange s) (k : Speakable (s .core) w) where
   sound : Sound (encodedFrame s (w .law) (w .width) (w .samples))
   sound = frame-sound s (w .law) (w .width) (w .samples) (length (w .buffer)) able
 
-  groups-are : frameGroups (encodedFrame s (w .law) (w .width) (w .samples)) ≡ length (w .samples) / 8
+  groups-are : frameGroups (encodedFrame s (w .law) (w .width) (w .samples)) ≡ length (w .samples) / group
   unfolding encodedFrame
   groups-are =
       let cws = encodedCodewords s (w .law) (w .width) (w .samples) in

@@ -11,7 +11,7 @@ use borrow.Author.Tests.{eq-eqb}
 use Rattle.words.specs.Notation.{_>>_}
 use Rattle.words.specs.Within.{Within}
 use Rattle.state.specs.declared.State.{State}
-use Rattle.frame.specs.Format.{mostGroups, frameLength}
+use Rattle.frame.specs.Format.{group, mostGroups, frameLength}
 use Rattle.frame.specs.Planes.{frameOf}
 use Rattle.frame.specs.Read.{frameWidth, frameCore, frameGroups, thinned}
 use Rattle.frame.specs.Sound.{Sound}
@@ -36,9 +36,9 @@ module _ (s : State) (w : Way) (fits : encodeReply s (w .law) (w .width) (w .sam
   unfolding written encodeOctets encodeOut encodedFrame
   written-is =
       let cws = encodedCodewords s (w .law) (w .width) (w .samples) in
-      let size : length (frameOf (w .width) (s .core) cws) ≡ frameLength (w .width) (length (w .samples) / 8) =
+      let size : length (frameOf (w .width) (s .core) cws) ≡ frameLength (w .width) (length (w .samples) / group) =
       frame-length (w .width) (s .core) cws ∙ rw (codewords-length s (w .law) (w .width) (w .samples)) in
-      rw (eq-eqb _ _ fits) (take-at (frameOf (w .width) (s .core) cws) (drop (frameLength (w .width) (length (w .samples) / 8)) (w .buffer)) (frameLength (w .width) (length (w .samples) / 8)) size)
+      rw (eq-eqb _ _ fits) (take-at (frameOf (w .width) (s .core) cws) (drop (frameLength (w .width) (length (w .samples) / group)) (w .buffer)) (frameLength (w .width) (length (w .samples) / group)) size)
 
   pub encoder-is : encoderAfter s w ≡ encodedState s (w .law) (w .width) (w .samples)
   unfolding encoderAfter encodeState

@@ -7,7 +7,7 @@ use native.Mathlib.Nat.{mul-le-mul}
 use native.Mathlib.Omega.{arith}
 use lib.ListN.{length}
 use denote.Ref.{now}
-use Rattle.frame.specs.Format.{frameLength}
+use Rattle.frame.specs.Format.{group, mostGroups, frameLength}
 use Rattle.calls.specs.Encode.{encodeNumber, encodeReply, encodeOctets, encodeState, encodeOut}
 use Rattle.calls.proofs.Fitness.{encode-says}
 use Rattle.calls.proofs.Answers.{refusal, success, encode-small}
@@ -20,7 +20,7 @@ fit c = sym (c .before .encode-number .ensures) ∙ c .if1 .left
 unfit : (c : tie.Then1) → encodeNumber (c .before .before .before .before .args .s) (c .before .before .before .before .args .law) (c .before .before .before .before .args .width) (length (now (c .before .before .before .before .args .samples))) (length (now (c .before .before .before .before .args .out))) ≡ 0 → ⊥
 unfit c e = c .if1 .taken (c .before .encode-number .ensures ∙ e)
 
-product : (c : tie.Else1) → c .before .before .before .before .args .width * (length (now (c .before .before .before .before .args .samples)) / 8) ≤ 5 * 40
+product : (c : tie.Else1) → c .before .before .before .before .args .width * (length (now (c .before .before .before .before .args .samples)) / group) ≤ 5 * mostGroups
 product c =
     let codable = encode-says _ (c .before .before .before .before .args .law) _ _ _ (fit c) .1 in
     mul-le-mul (codable .pair .most) (codable .groups .high)

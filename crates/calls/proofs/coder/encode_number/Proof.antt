@@ -6,14 +6,14 @@ use Prim.Native.Nat.{_*_, _/_, _≤_}
 use native.Mathlib.Nat.{mul-le-mul}
 use native.Mathlib.Omega.{arith}
 use borrow.Author.Tests.{lt-ltb, le-ltb, not-true, not-false}
-use Rattle.frame.specs.Format.{frameLength}
+use Rattle.frame.specs.Format.{group, mostGroups, frameLength}
 use Rattle.frame.proofs.Sounds.{pair-says, count-says}
 use Rattle.calls.specs.Reply.{badLaw}
 use Rattle.calls.specs.Encode.{encodeNumber}
 use Rattle.calls.proofs.coder.encode_number.Statement.{statement}
 use Rattle.calls.proofs.coder.encode_number.Tie as tie
 
-product : (c : tie.Else4) → c .before .before .before .before .before .before .before .args .width * (c .before .before .before .before .before .before .before .args .n / 8) ≤ 5 * 40
+product : (c : tie.Else4) → c .before .before .before .before .before .before .before .args .width * (c .before .before .before .before .before .before .before .args .n / group) ≤ 5 * mostGroups
 product c =
     let pair = pair-says _ _ (sym (c .before .before .before .bad-pair .ensures) ∙ c .before .before .if3 .left) in
     let count = count-says _ (sym (c .before .bad-count .ensures) ∙ c .if4 .left) in

@@ -5,7 +5,7 @@ use Prim.Native.Nat.{_*_, _-_}
 use native.Mathlib.Omega.{arith}
 use borrow.Author.Needs.{needs}
 use denote.Ref.{now}
-use Rattle.frame.specs.Format.{widthOf}
+use Rattle.frame.specs.Format.{headerLength, group, widthOf}
 use Rattle.frame.specs.Read.{frameWidth, frameGroups}
 use Rattle.calls.proofs.Playing.{Playing, frame-pair, playing-none, playing-codeword, playing-more, playing-done}
 use Prim.Native.Nat.{_+_, _/_, _%_, _≤_, _<_}
@@ -24,9 +24,9 @@ Inv-loop law frame out₀ x g state₀ moved₀ k₀ out state moved k =
     (x ≡ frameWidth frame) × (g ≡ frameGroups frame) × Playing state₀ law frame out₀ k state moved out
 
 abbrev μ-loop : tie.MeasureT-loop
-μ-loop law frame out₀ x g state₀ moved₀ k₀ out state moved k = 8 * g - k
+μ-loop law frame out₀ x g state₀ moved₀ k₀ out state moved k = group * g - k
 
-more : (c : tie.In-loop Inv-loop μ-loop) → c .before .loop .k < 8 * frameGroups (now (c .before .before .before .before .before .before .before .args .frame))
+more : (c : tie.In-loop Inv-loop μ-loop) → c .before .loop .k < group * frameGroups (now (c .before .before .before .before .before .before .before .args .frame))
 more c = rw (← c .before .loop .inv .1) (c .loop-test .taken)
 
 -- the planes that the header calls for are there
@@ -36,14 +36,14 @@ unfolding frameLength
 planes-left c =
     let inv = c .before .before .loop .inv in
     let whole = c .before .before .before .before .before .before .before .before .pre .sound .whole in
-    rw (rest-lent (now (c .before .before .before .before .before .before .before .before .args .frame)) 2, inv .0, inv .1) (simp length-drop (omega arith))
+    rw (rest-lent (now (c .before .before .before .before .before .before .before .before .args .frame)) headerLength, inv .0, inv .1) (simp length-drop (omega arith))
 
 codeword-is : (c : tie.After-codeword-at Inv-loop μ-loop) → c .codeword-at .result ≡ getD (received (now (c .before .before .before .before .before .before .before .before .before .args .frame))) (c .before .before .before .loop .k) 0
 unfolding body
 codeword-is c =
     let inv = c .before .before .before .loop .inv in
     let f = now (c .before .before .before .before .before .before .before .before .before .args .frame) in
-    c .codeword-at .ensures ∙ rw (rest-lent f 2, inv .0, inv .1) (sym (received-at f (c .before .before .before .loop .k) (more (c .before .before))))
+    c .codeword-at .ensures ∙ rw (rest-lent f headerLength, inv .0, inv .1) (sym (received-at f (c .before .before .before .loop .k) (more (c .before .before))))
 
 moved-few : (c : tie.After-struct-known Inv-loop μ-loop) → c .before .decode-sample .result .moved ≤ 1
 moved-few c = rw (c .before .decode-sample .ensures) (moved-bit _ _ _ _)

@@ -8,7 +8,7 @@ use native.Mathlib.Nat.{mul-le-mul, mul-le-mul-right}
 use native.Mathlib.Omega.{arith}
 use lib.ListN.{length}
 use denote.Ref.{now}
-use Rattle.frame.specs.Format.{frameLength}
+use Rattle.frame.specs.Format.{headerLength, frameLength}
 use Rattle.frame.specs.Read.{frameGroups}
 use Rattle.calls.specs.Drop.{dropNumber, dropReply, dropOctets, dropOut}
 use Rattle.calls.specs.Inner.{Droppable}
@@ -29,7 +29,7 @@ product c =
     mul-le-mul w (c .wide .ensures .1)
 
 -- the count is the thinned frame's length
-counted : (c : tie.After-wide) → 2 + c .before .before .before .before .before .before .args .width * c .wide .result ≡ frameLength (c .before .before .before .before .before .before .args .width) (frameGroups (now (c .before .before .before .before .before .before .args .frame)))
+counted : (c : tie.After-wide) → headerLength + c .before .before .before .before .before .before .args .width * c .wide .result ≡ frameLength (c .before .before .before .before .before .before .args .width) (frameGroups (now (c .before .before .before .before .before .before .args .frame)))
 unfolding frameLength frameGroups
 counted c = rw (c .wide .ensures .0)
 

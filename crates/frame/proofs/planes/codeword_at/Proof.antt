@@ -3,12 +3,13 @@
 use mathlib.Core.Path.{_≡_, refl}
 use Prim.Native.Nat.{_-_, _%_}
 use native.Mathlib.Omega.{arith}
+use Rattle.frame.specs.Format.{group}
 use Rattle.frame.proofs.Collecting.{Collecting, collecting-none, collecting-within, collecting-plane, collecting-room, collecting-more, collecting-done}
 use Rattle.frame.proofs.planes.codeword_at.Statement.{statement}
 use Rattle.frame.proofs.planes.codeword_at.Tie as tie
 
 abbrev Inv-loop : tie.InvT-loop
-Inv-loop body x g k place there₀ left₀ at₀ there left at = (place ≡ 7 - k % 8) × Collecting body x g k left at there
+Inv-loop body x g k place there₀ left₀ at₀ there left at = (place ≡ 7 - k % group) × Collecting body x g k left at there
 
 abbrev μ-loop : tie.MeasureT-loop
 μ-loop body x g k place there₀ left₀ at₀ there left at = left

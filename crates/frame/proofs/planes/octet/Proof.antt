@@ -2,6 +2,7 @@
 -- Assumes nothing.
 use Prim.Native.Nat.{_-_}
 use native.Mathlib.Omega.{arith}
+use Rattle.frame.specs.Format.{group}
 use Rattle.frame.proofs.Gathering.{Gathering, gathering-none, gathering-room, gathering-more, gathering-done}
 use Rattle.frame.proofs.planes.octet.Statement.{statement}
 use Rattle.frame.proofs.planes.octet.Tie as tie
@@ -10,7 +11,7 @@ abbrev Inv-loop : tie.InvT-loop
 Inv-loop codewords at b there₀ i₀ there i = Gathering codewords at b i there
 
 abbrev μ-loop : tie.MeasureT-loop
-μ-loop codewords at b there₀ i₀ there i = 8 - i
+μ-loop codewords at b there₀ i₀ there i = group - i
 
 loop-holds : tie.Need-loop-holds Inv-loop μ-loop
 loop-holds c = gathering-none _ _ _

@@ -8,7 +8,7 @@ use native.Mathlib.Omega.{arith}
 use lib.ListN.{length, getD, drop}
 use lib.Seq.{length-take-le}
 use denote.Ref.{now}
-use Rattle.frame.specs.Format.{head, coreOf, frameLength}
+use Rattle.frame.specs.Format.{headerLength, head, coreOf, frameLength}
 use Rattle.frame.specs.Read.{frameCore, frameGroups, body, thinned}
 use Rattle.frame.proofs.Headers.{header-renewed, copied}
 use Rattle.frame.proofs.whole.thin_frame.Statement.{statement}
@@ -21,14 +21,14 @@ product c =
     mul-le-mul w g
 
 -- the octets that are copied are the thinned frame's, of which the frame and the buffer have enough
-is-length : (c : tie.After-wide) → 2 + c .before .before .before .before .args .w * c .wide .result ≡ frameLength (c .before .before .before .before .args .w) (frameGroups (now (c .before .before .before .before .args .frame)))
+is-length : (c : tie.After-wide) → headerLength + c .before .before .before .before .args .w * c .wide .result ≡ frameLength (c .before .before .before .before .args .w) (frameGroups (now (c .before .before .before .before .args .frame)))
 unfolding frameLength frameGroups
 is-length c = rw (c .wide .ensures .0)
 
-long : (c : tie.After-wide) → 2 + c .before .before .before .before .args .w * c .wide .result ≤ length (now (c .before .before .before .before .args .frame))
+long : (c : tie.After-wide) → headerLength + c .before .before .before .before .args .w * c .wide .result ≤ length (now (c .before .before .before .before .args .frame))
 long c = rw (is-length c) (c .before .before .before .before .pre .2)
 
-room : (c : tie.After-wide) → 2 + c .before .before .before .before .args .w * c .wide .result ≤ length (now (c .before .before .before .before .args .out))
+room : (c : tie.After-wide) → headerLength + c .before .before .before .before .args .w * c .wide .result ≤ length (now (c .before .before .before .before .args .out))
 room c = rw (is-length c) (c .before .before .before .before .pre .3)
 
 -- the octet that is stored in front has the new width, and the core of the frame
@@ -74,8 +74,8 @@ returns c =
     let f = now (at .args .frame) in
     let d = now (at .args .out) in
     let m = at .args .w * getD f 1 0 in
-    let done = copied (2 + at .args .w * called .wide .result) f d (long called) (c .before .before .before .before .copy .ensures .1) in
-    rw (done, renewed c, called .wide .ensures .0) (header-renewed f m _ (drop (2 + m) d) (at .pre .1))
+    let done = copied (headerLength + at .args .w * called .wide .result) f d (long called) (c .before .before .before .before .copy .ensures .1) in
+    rw (done, renewed c, called .wide .ensures .0) (header-renewed f m _ (drop (headerLength + m) d) (at .pre .1))
 
 pub thin-frame-spec : {M : Type 1} → statement M
 thin-frame-spec =

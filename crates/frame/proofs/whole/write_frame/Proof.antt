@@ -7,7 +7,7 @@ use lib.ListN.{length-drop, length-set}
 use lib.Seq.{drop-drop}
 use denote.Ref.{now}
 use Rattle.lists.proofs.Rest.{rest-lent, rest-back}
-use Rattle.frame.specs.Format.{frameLength}
+use Rattle.frame.specs.Format.{headerLength, frameLength}
 use Rattle.frame.specs.Planes.{frameOf}
 use Rattle.frame.proofs.Headers.{header-stored}
 use Rattle.frame.proofs.whole.write_frame.Statement.{statement}
@@ -28,7 +28,7 @@ write-planes-requires : tie.Need-write-planes-requires
 unfolding frameLength
 write-planes-requires c κs =
     let at = c .before .before .before in
-    (rw (rest-lent (now (at .args .out)) 2) (simp length-drop (omega (arith, at .pre .3))), omega (arith, at .pre .0))
+    (rw (rest-lent (now (at .args .out)) headerLength) (simp length-drop (omega (arith, at .pre .3))), omega (arith, at .pre .0))
 
 header-requires : tie.Need-header-requires
 header-requires c κs = search needs
@@ -52,7 +52,7 @@ unfolding frameLength frameOf
 returns c =
     let at = c .before .before .before .before .before .before .before in
     let d = now (at .args .out) in
-    rw (rest-back d 2, c .before .before .before .write-planes .ensures, rest-lent d 2, c .header .ensures) (header-stored d _ _ _ (omega (arith, at .pre .3)) ∙ rw (drop-drop _ 2 d))
+    rw (rest-back d headerLength, c .before .before .before .write-planes .ensures, rest-lent d headerLength, c .header .ensures) (header-stored d _ _ _ (omega (arith, at .pre .3)) ∙ rw (drop-drop _ headerLength d))
 
 pub write-frame-spec : {M : Type 1} → statement M
 write-frame-spec =
