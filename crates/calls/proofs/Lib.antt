@@ -3,3 +3,4 @@ pub mod Coding
 pub mod Playing
 pub mod Answers
 pub mod Equal
+pub mod Room
