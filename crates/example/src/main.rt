@@ -1,0 +1,41 @@
+// How the calls are used, as the README shows it: a frame is encoded, loses two planes on the way, and is heard.
+use calls::Reply;
+use calls::coder::encode;
+use calls::decoder::decode;
+use calls::dropper::drop_planes;
+use calls::replies::number_of;
+use calls::starter::reset;
+use libc::STDOUT_FILENO;
+use state::State;
+
+fn main() {
+    let started = reset(2);
+    let state = started.state;
+    send(state, state);
+}
+
+fn send(near: State, far: State) {
+    let speech = [0x7f; 160];
+    let mut radio = [0; 102];
+    let mut thin = [0; 62];
+    let mut sound = [0; 160];
+    let sent = encode(near, 0, 5, &speech, &mut radio); // mu-law in, 40 kbit/s
+    let n = sent.octets;
+    let kept = drop_planes(&radio[..n], 3, &mut thin); // two planes thrown away: 24 kbit/s
+    let m = kept.octets;
+    let heard = decode(far, 1, &thin[..m], &mut sound); // A-law out
+    let sent_reply = sent.reply;
+    let kept_reply = kept.reply;
+    let heard_reply = heard.reply;
+    tell(b"encode: reply ", sent_reply, n);
+    tell(b"drop: reply ", kept_reply, m);
+    tell(b"decode: reply ", heard_reply, heard.octets);
+}
+
+fn tell(call: &[u8], reply: Reply, octets: usize) {
+    io::write_all(STDOUT_FILENO, call);
+    io::print_decimal(STDOUT_FILENO, number_of(reply) as u64);
+    io::write_all(STDOUT_FILENO, b", octets ");
+    io::print_decimal(STDOUT_FILENO, octets as u64);
+    io::write_all(STDOUT_FILENO, b"\n");
+}
