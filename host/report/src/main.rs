@@ -7,7 +7,7 @@ use report::runs::{at_core, Sample, CORES};
 use std::path::{Path, PathBuf};
 use std::process::ExitCode;
 use std::{env, fs};
-use tool::Tool;
+use tool::{folder, Tool};
 
 fn main() -> ExitCode {
     let words: Vec<String> = env::args().skip(1).collect();
@@ -50,25 +50,13 @@ fn demonstrate(folder: &Path, samples: &Path, tool: &Tool) -> Result<bool, Strin
 }
 
 fn read_samples(folder: &Path) -> Result<Vec<Sample>, String> {
-    let told = |error| format!("{}: {error}", folder.display());
-    let mut places: Vec<PathBuf> = fs::read_dir(folder)
-        .map_err(told)?
-        .map(|entry| entry.map(|found| found.path()))
-        .collect::<Result<_, _>>()
-        .map_err(told)?;
-    places.retain(|place| place.extension().is_some_and(|ending| ending == "mu"));
-    // A folder has no order of its own, and the page should not depend on the machine.
-    places.sort();
-    places
-        .iter()
-        .map(|place| {
-            let name = place.file_stem().unwrap_or_default().to_string_lossy();
-            Ok(Sample {
-                name: name.into_owned(),
-                speech: fs::read(place).map_err(|error| format!("{}: {error}", place.display()))?,
-            })
+    let sample = |place: &PathBuf| {
+        Ok(Sample {
+            name: folder::name(place),
+            speech: folder::read(place)?,
         })
-        .collect()
+    };
+    folder::files(folder, "mu")?.iter().map(sample).collect()
 }
 
 fn heard(tool: &Tool, sample: Sample) -> Result<Heard, String> {

@@ -10,8 +10,8 @@
 //! `in` and `out` have octets in hexadecimal, or after `text` a line of text, and several such lines
 //! follow each other in the stream. `err` has a line of standard error. There is one `call`.
 
-use std::path::{Path, PathBuf};
-use std::{fs, str};
+use std::path::Path;
+use tool::folder::{self, files, name};
 
 #[derive(Debug, Default, PartialEq, Eq)]
 pub struct Run {
@@ -22,28 +22,18 @@ pub struct Run {
     pub said: Vec<String>,
 }
 
-/// All runs of a folder, in the order of their names. A folder without any is an error, since
-/// nothing would be compared.
+/// All runs of a folder, in the order of their names.
 pub fn read_all(folder: &Path) -> Result<Vec<Run>, String> {
-    let told = |error| format!("{}: {error}", folder.display());
-    let mut places: Vec<PathBuf> = fs::read_dir(folder)
-        .map_err(told)?
-        .map(|entry| entry.map(|found| found.path()))
-        .collect::<Result<_, _>>()
-        .map_err(told)?;
-    places.retain(|place| place.extension().is_some_and(|ending| ending == "run"));
-    places.sort();
-    if places.is_empty() {
-        return Err(format!("{}: no run is stored there", folder.display()));
-    }
-    places.iter().map(|place| read(place)).collect()
+    files(folder, "run")?
+        .iter()
+        .map(|place| read(place))
+        .collect()
 }
 
 fn read(place: &Path) -> Result<Run, String> {
-    let told = |error: String| format!("{}: {error}", place.display());
-    let text = fs::read_to_string(place).map_err(|error| told(error.to_string()))?;
-    let name = place.file_stem().unwrap_or_default().to_string_lossy();
-    parse(&name, &text).map_err(told)
+    let octets = folder::read(place)?;
+    parse(&name(place), &String::from_utf8_lossy(&octets))
+        .map_err(|error| format!("{}: {error}", place.display()))
 }
 
 pub fn parse(name: &str, text: &str) -> Result<Run, String> {
@@ -116,11 +106,5 @@ mod tests {
         ] {
             assert_eq!(parse("it", text), Err(wrong.to_string()));
         }
-    }
-
-    #[test]
-    fn a_folder_without_runs_is_an_error() {
-        assert!(read_all(Path::new("src")).is_err());
-        assert!(read_all(Path::new("no-such-folder")).is_err());
     }
 }

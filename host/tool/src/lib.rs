@@ -1,6 +1,8 @@
 //! A program in a pipe, the proved tool or another one with its words: octets in, octets out, and
 //! what it said on standard error.
 
+pub mod folder;
+
 use std::io::{ErrorKind, Write};
 use std::process::{Command, Stdio};
 use std::thread;
