@@ -1,6 +1,5 @@
 // A refused call may be made again as if it had not been made: with the fault mended, on the memory and the state that the
 // refusal left, the answer is that of the mended call alone.
-use crate::checksum::same_state;
 use crate::coding::Speech;
 use crate::coding::say_coded;
 use crate::coding::send;
@@ -18,6 +17,7 @@ use calls::Coded;
 use calls::Heard;
 use calls::replies::number_of;
 use check::same;
+use checksum::same_state;
 use state::State;
 
 // The state that `unfit` spoils, put right; any other state at reset stays

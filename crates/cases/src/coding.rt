@@ -1,9 +1,6 @@
 // A case of encode: whatever is answered, out stays behind the octets reported, and a refusal hands back the state.
 ghost use Prim.Native.Nat.{_≤_};
 ghost use lib.ListN.{length};
-use crate::checksum::of_octets;
-use crate::checksum::of_state;
-use crate::checksum::same_state;
 use crate::due::Due;
 use crate::memory::blank_out;
 use crate::memory::first;
@@ -18,6 +15,9 @@ use crate::text::say_field;
 use calls::Coded;
 use calls::coder::encode;
 use calls::replies::number_of;
+use checksum::of_octets;
+use checksum::of_state;
+use checksum::same_state;
 use state::State;
 
 // Samples start, start + step, and so on

@@ -1,7 +1,6 @@
 // A case of drop_planes. A success is known whole: the header with the new width, g, and the first planes as they stood.
 ghost use Prim.Native.Nat.{_≤_};
 ghost use lib.ListN.{length};
-use crate::checksum::of_octets;
 use crate::coding::header;
 use crate::due::Due;
 use crate::hearing::Frame;
@@ -20,6 +19,7 @@ use crate::text::say_octets;
 use calls::Dropped;
 use calls::dropper::drop_planes;
 use calls::replies::number_of;
+use checksum::of_octets;
 
 pub fn thin(frame: &[u8], width: u8, room: usize, out: &mut [u8]) -> Dropped
     requires { ⌜ 512 ≤ length (now out) ⌝ }

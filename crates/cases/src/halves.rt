@@ -1,6 +1,4 @@
 // The state goes on from frame to frame: two frames of 160 samples are one of 320, plane by plane, and end in its state.
-use crate::checksum::of_state;
-use crate::checksum::same_state;
 use crate::coding::Speech;
 use crate::coding::send;
 use crate::memory::between;
@@ -10,6 +8,8 @@ use crate::tally::Tally;
 use crate::tally::noted;
 use crate::text::say_field;
 use check::same;
+use checksum::of_state;
+use checksum::same_state;
 
 pub fn halves(t: Tally) -> Tally {
     let t2 = halves_case(t, 2);

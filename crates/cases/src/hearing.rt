@@ -2,9 +2,6 @@
 ghost use mathlib.Core.Path.{_≡_};
 ghost use Prim.Native.Nat.{_≤_};
 ghost use lib.ListN.{length};
-use crate::checksum::of_octets;
-use crate::checksum::of_state;
-use crate::checksum::same_state;
 use crate::due::Due;
 use crate::memory::blank_out;
 use crate::memory::first;
@@ -18,6 +15,9 @@ use crate::text::say_field;
 use calls::Heard;
 use calls::decoder::decode;
 use calls::replies::number_of;
+use checksum::of_octets;
+use checksum::of_state;
+use checksum::same_state;
 use state::State;
 
 // Octets lent as a frame: the first two, and how many there are. The planes have a pattern.

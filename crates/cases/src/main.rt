@@ -1,7 +1,6 @@
 // The worked examples and the limit cases, on the four calls and on the levels of G.711. A line for each case: its name,
 // what was answered, and whether that is what is due. The due values are written here from the rules, and are not outputs.
 mod again;
-mod checksum;
 mod coding;
 mod copies;
 mod dropping;

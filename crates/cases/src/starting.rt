@@ -1,12 +1,12 @@
 // A case of reset: 01's table has the reset state, and a refusal hands back that of core 2.
-use crate::checksum::of_state;
-use crate::checksum::same_state;
 use crate::tally::Tally;
 use crate::tally::named;
 use crate::tally::noted;
 use crate::text::say_field;
 use calls::replies::number_of;
 use calls::starter::reset;
+use checksum::of_state;
+use checksum::same_state;
 use state::State;
 
 // Written from 01's table

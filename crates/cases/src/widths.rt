@@ -1,8 +1,5 @@
 // The width may change from frame to frame, and the state goes on. The tables nest and the core bits alone feed the state,
 // so a frame at width 5, dropped, is the frame encoded at the lower width, and the states at all ends are one.
-use crate::checksum::of_octets;
-use crate::checksum::of_state;
-use crate::checksum::same_state;
 use crate::coding::asked;
 use crate::coding::send;
 use crate::dropping::thin;
@@ -16,6 +13,9 @@ use crate::text::say;
 use crate::text::say_field;
 use calls::replies::number_of;
 use check::same;
+use checksum::of_octets;
+use checksum::of_state;
+use checksum::same_state;
 use state::State;
 
 pub fn widths(t: Tally) -> Tally {

@@ -2,8 +2,6 @@
 ghost use Prim.Native.Nat.{_≤_};
 ghost use lib.ListN.{length};
 ghost use Rattle.vectors.specs.Pairs.{NinePairs};
-use crate::checksum::of_state;
-use crate::checksum::same_state;
 use crate::drive::Track;
 use crate::names::put_name;
 use crate::runs::Kind;
@@ -13,6 +11,8 @@ use crate::text::put_next;
 use crate::text::put_number;
 use crate::text::put_text;
 use crate::text::put_two;
+use checksum::of_state;
+use checksum::same_state;
 use libc::STDOUT_FILENO;
 use sample::Decoded;
 

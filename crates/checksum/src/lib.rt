@@ -1,5 +1,6 @@
-// The checksum of docs/SEQUENCES.md, of a list of numbers and of a state, and whether two states are the same.
-// It stays below 4,294,967,291, and a list of no numbers has 0.
+// The checksum of octets and of a state, and whether two states are the same. docs/SEQUENCES.md says how it is computed;
+// it stays below 4,294,967,291, and a list of no numbers has 0.
+// Assumes nothing.
 use state::State;
 
 // One number more
@@ -72,4 +73,18 @@ fn same_signals(s: State, t: State) -> bool {
         & (s.pk2 == t.pk2)
         & (s.td == t.td)
         & (s.core == t.core)
+}
+
+pub fn of_octets(octets: &[u8]) -> u32 {
+    let mut h = 0;
+    let mut i = 0;
+    while i < octets.len() {
+        h = add_octet(h, octets[i]);
+        i += 1;
+    }
+    h
+}
+
+fn add_octet(h: u32, octet: u8) -> u32 {
+    add(h, octet as u32)
 }

@@ -1,10 +1,10 @@
--- `cases::checksum::of_octets` is safe and ends. The loop's invariant: the place is within the octets. The measure is what is left of the octets.
+-- `checksum::of_octets` is safe and ends. The loop's invariant: the place is within the octets. The measure is what is left of the octets.
 -- Assumes nothing.
 use Prim.Native.Nat.{_-_, _≤_}
 use native.Mathlib.Omega.{arith}
 use lib.ListN.{length}
-use Rattle.cases.proofs.checksum.of_octets.Statement.{statement}
-use Rattle.cases.proofs.checksum.of_octets.Tie as tie
+use Rattle.checksum.proofs.of_octets.Statement.{statement}
+use Rattle.checksum.proofs.of_octets.Tie as tie
 
 abbrev Inv-loop : tie.InvT-loop
 Inv-loop octets h₀ i₀ h i = i ≤ length octets
