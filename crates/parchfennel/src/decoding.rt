@@ -6,13 +6,13 @@ use crate::stream::is_cut;
 use crate::stream::passed;
 use crate::stream::read_frame;
 use crate::stream::write_octets;
-use crate::text::within;
 use crate::words::are_words;
 use crate::words::law_at;
 use calls::decoder::decode;
 use calls::replies::number_of;
 use calls::starter::reset;
 use state::State;
+use text::within;
 
 // What the words ask
 pub struct Wish {

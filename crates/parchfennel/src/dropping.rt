@@ -6,12 +6,12 @@ use crate::stream::is_cut;
 use crate::stream::passed;
 use crate::stream::read_frame;
 use crate::stream::write_octets;
-use crate::text::within;
 use crate::words::are_words;
 use crate::words::number_at;
 use crate::words::octet_of;
 use calls::dropper::drop_planes;
 use calls::replies::number_of;
+use text::within;
 
 pub fn run(verbose: bool) {
     if !are_words(verbose, 2, 3) {

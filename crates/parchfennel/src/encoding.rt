@@ -1,15 +1,11 @@
 // encode LAW WIDTH CORE [SAMPLES]: G.711 octets in, frames out. The last frame may be shorter than the others.
 ghost use Rattle.io.specs.Counts.{Counts};
-ghost use Prim.Native.Nat.{_≤_};
-ghost use lib.ListN.{length};
 use crate::report::refuse;
 use crate::report::say_filled;
 use crate::report::show_state;
 use crate::stream::passed;
 use crate::stream::read_part;
 use crate::stream::write_octets;
-use crate::text::least;
-use crate::text::within;
 use crate::words::Number;
 use crate::words::are_words;
 use crate::words::is_there;
@@ -20,6 +16,8 @@ use calls::coder::encode;
 use calls::replies::number_of;
 use calls::starter::reset;
 use state::State;
+use text::least;
+use text::within;
 
 // What the words ask
 pub struct Plan {

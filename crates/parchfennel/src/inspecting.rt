@@ -1,7 +1,4 @@
 // inspect: frames in, a line a frame out: index, edition, x, y, g, octets. There is no state to show.
-ghost use Rattle.io.specs.Counts.{Counts};
-ghost use Prim.Native.Nat.{_≤_};
-ghost use lib.ListN.{length};
 use crate::report::refuse;
 use crate::report::say_cut;
 use crate::stream::Pass;
@@ -9,11 +6,11 @@ use crate::stream::is_cut;
 use crate::stream::passed;
 use crate::stream::read_frame;
 use crate::stream::write_octets;
-use crate::text::put_next;
-use crate::text::put_number;
-use crate::text::put_text;
 use crate::words::are_words;
 use frame::format::wrong_with;
+use text::put_next;
+use text::put_number;
+use text::put_text;
 
 pub fn run(verbose: bool) {
     if are_words(verbose, 1, 2) {

@@ -6,7 +6,6 @@ mod encoding;
 mod inspecting;
 mod report;
 mod stream;
-mod text;
 mod words;
 
 use report::say_missing;

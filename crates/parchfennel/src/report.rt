@@ -1,15 +1,12 @@
 // What is said on standard error: a refusal, a wrong call, samples filled up, and with -v the state after each frame.
 ghost use Rattle.io.specs.Counts.{Counts};
-ghost use Prim.Native.Nat.{_≤_};
-ghost use lib.ListN.{length};
-use crate::text::put_next;
-use crate::text::put_number;
-use crate::text::put_text;
-use crate::text::put_three;
-use crate::text::within;
 use crate::words::place;
 use libc::STDERR_FILENO;
 use state::State;
+use text::put_number;
+use text::put_text;
+use text::variables::put_state;
+use text::within;
 
 // A reply other than 0: which frame, where it begins in the stream, the number and its words
 pub fn refuse(frame: u64, octet: u64, number: u8) {
@@ -124,46 +121,9 @@ pub fn say_filled(frame: u64, octet: u64, samples: usize) {
 
 // The frame's index and the state, in the order of the table of ranges
 pub fn show_state(frame: u64, s: State) {
-    let b = s.b;
-    let dq = s.dq;
     let mut line = io::buffer();
     let at = put_number(&mut line, 0, frame);
-    let adapted = put_adaptation(&mut line, at, s);
-    let zeros = put_six(&mut line, adapted, b);
-    let differences = put_six(&mut line, zeros, dq);
-    let signals = put_signals(&mut line, differences, s);
-    let last = put_last(&mut line, signals, s);
+    let last = put_state(&mut line, at, b' ', b' ', s);
     let n = put_text(&mut line, last, b"\n");
     io::write_all(STDERR_FILENO, &line[..n]);
-}
-
-// YU to A2
-fn put_adaptation(line: &mut [u8], at: usize, s: State) -> usize
-    ensures { λ r. ⌜ Counts r (now (line .exit)) ⌝ }
-{
-    let scale = put_three(line, at, s.yu as u64, s.yl as u64, s.dms as u64);
-    let speed = put_three(line, scale, s.dml as u64, s.ap as u64, s.a1 as u64);
-    put_next(line, speed, s.a2 as u64)
-}
-
-// B1 to B6, DQ1 to DQ6
-fn put_six(line: &mut [u8], at: usize, w: [u16; 6]) -> usize
-    ensures { λ r. ⌜ Counts r (now (line .exit)) ⌝ }
-{
-    let half = put_three(line, at, w[0] as u64, w[1] as u64, w[2] as u64);
-    put_three(line, half, w[3] as u64, w[4] as u64, w[5] as u64)
-}
-
-// SR1 to PK1
-fn put_signals(line: &mut [u8], at: usize, s: State) -> usize
-    ensures { λ r. ⌜ Counts r (now (line .exit)) ⌝ }
-{
-    put_three(line, at, s.sr1 as u64, s.sr2 as u64, s.pk1 as u64)
-}
-
-// PK2 to core
-fn put_last(line: &mut [u8], at: usize, s: State) -> usize
-    ensures { λ r. ⌜ Counts r (now (line .exit)) ⌝ }
-{
-    put_three(line, at, s.pk2 as u64, s.td as u64, s.core as u64)
 }

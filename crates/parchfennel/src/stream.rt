@@ -1,15 +1,13 @@
 // Standard input in whole pieces: a count of octets, or a frame as long as its header says. Where a read fails it is
 // said, and what was read stands as if the stream had ended.
 ghost use Rattle.io.specs.Counts.{Counts};
-ghost use Prim.Native.Nat.{_≤_};
-ghost use lib.ListN.{length};
-use crate::text::least;
-use crate::text::within;
 use frame::format::bad_groups;
 use frame::format::bad_pair;
 use frame::format::wrong_with;
 use libc::STDIN_FILENO;
 use libc::STDOUT_FILENO;
+use text::least;
+use text::within;
 
 // After a frame that leaves no state: whether there may be a next one, and where it begins in the stream
 pub struct Pass {

@@ -6,8 +6,8 @@ use crate::choices::fill_samples;
 use crate::choices::octets_of;
 use crate::dice::draw;
 use crate::dice::some_octet;
-use crate::text::put;
-use crate::text::put_text;
+use text::put;
+use text::put_text;
 
 // Its length; kept is the frame of the pool
 pub fn some_frame(core: u8, kept: &[u8], seed: &mut u64, sent: &mut [u8]) -> usize

@@ -2,17 +2,16 @@
 // (docs/TRANSCRIPT.md). Another codec can be held to these lines.
 mod choices;
 mod dice;
+mod fields;
 mod frames;
 mod lines;
-mod numbers;
-mod text;
 mod touch;
 mod turns;
 
 use choices::blank;
-use text::put_number;
+use fields::write_line;
+use text::put_next;
 use text::put_text;
-use text::write_line;
 use turns::Pool;
 use turns::turn;
 
@@ -23,9 +22,9 @@ const CALLS: usize = 3000;
 fn main() {
     let mut line = io::buffer();
     let name = put_text(&mut line, 0, b"seed");
-    let seed = put_number(&mut line, name, b' ', SEED);
+    let seed = put_next(&mut line, name, SEED);
     let calls = put_text(&mut line, seed, b" calls");
-    let end = put_number(&mut line, calls, b' ', CALLS as u64);
+    let end = put_next(&mut line, calls, CALLS as u64);
     write_line(&mut line, end);
     write_all_turns();
 }

@@ -16,12 +16,12 @@ use crate::lines::decode_line;
 use crate::lines::drop_line;
 use crate::lines::encode_line;
 use crate::lines::reset_line;
-use crate::text::put_text;
 use crate::touch::touched;
 use calls::Coded;
 use calls::Heard;
 use calls::replies::number_of;
 use state::State;
+use text::put_text;
 
 // Two states that go on by the calls that are done, and the length of the last frame
 pub struct Pool {

@@ -1,20 +1,17 @@
 // The lines that are written: one for each sequence, or in a dump one for each sample (docs/SEQUENCES.md).
-ghost use Prim.Native.Nat.{_≤_};
-ghost use lib.ListN.{length};
+ghost use Rattle.io.specs.Counts.{Counts};
 ghost use Rattle.vectors.specs.Pairs.{NinePairs};
 use crate::drive::Track;
 use crate::names::put_name;
 use crate::runs::Kind;
 use crate::runs::Run;
-use crate::text::blank;
-use crate::text::put_next;
-use crate::text::put_number;
-use crate::text::put_text;
-use crate::text::put_two;
 use checksum::of_state;
 use checksum::same_state;
 use libc::STDOUT_FILENO;
 use sample::Decoded;
+use text::put_next;
+use text::put_number;
+use text::put_text;
 
 // Where a sample stands in a sequence, the octet that the encoder was given, and whether the sample is dumped
 pub struct Note {
@@ -27,15 +24,14 @@ pub struct Note {
 pub fn write_run(run: Run, t: Track)
     requires { ⌜ NinePairs (run .width) (run .core) ⌝ }
 {
-    let mut line = blank();
+    let mut line = io::buffer();
     let n = put_run(&mut line, run, t);
-    io::write_all(STDOUT_FILENO, &line[0..n]);
+    io::write_all(STDOUT_FILENO, &line[..n]);
 }
 
 fn put_run(line: &mut [u8], run: Run, t: Track) -> usize
     requires { ⌜ NinePairs (run .width) (run .core) ⌝ }
-    requires { ⌜ 128 ≤ length (now line) ⌝ }
-    ensures { λ r. ⌜ r ≤ 128 ⌝ }
+    ensures { λ r. ⌜ Counts r (now (line .exit)) ⌝ }
 {
     let at = put_name(line, run);
     let kind = run.kind;
@@ -56,9 +52,7 @@ fn do_ends_differ(kind: Kind, t: Track) -> bool {
 }
 
 fn put_sums(line: &mut [u8], at: usize, t: Track) -> usize
-    requires { ⌜ at ≤ 8 ⌝ }
-    requires { ⌜ 128 ≤ length (now line) ⌝ }
-    ensures { λ r. ⌜ r ≤ 128 ⌝ }
+    ensures { λ r. ⌜ Counts r (now (line .exit)) ⌝ }
 {
     let decoder = t.decoder;
     let sent = put_two(line, at, t.samples as u64, t.codewords as u64);
@@ -68,15 +62,14 @@ fn put_sums(line: &mut [u8], at: usize, t: Track) -> usize
 
 pub fn write_sample(note: Note, codeword: u8, d: Decoded) {
     if note.dumped {
-        let mut line = blank();
+        let mut line = io::buffer();
         let n = put_sample(&mut line, note, codeword, d);
-        io::write_all(STDOUT_FILENO, &line[0..n]);
+        io::write_all(STDOUT_FILENO, &line[..n]);
     }
 }
 
 fn put_sample(line: &mut [u8], note: Note, codeword: u8, d: Decoded) -> usize
-    requires { ⌜ 128 ≤ length (now line) ⌝ }
-    ensures { λ r. ⌜ r ≤ 128 ⌝ }
+    ensures { λ r. ⌜ Counts r (now (line .exit)) ⌝ }
 {
     let state = d.state;
     let given = put_given(line, note);
@@ -87,12 +80,18 @@ fn put_sample(line: &mut [u8], note: Note, codeword: u8, d: Decoded) -> usize
 
 // The sample's number, and the encoder's octet, or - where there is no encoder
 fn put_given(line: &mut [u8], note: Note) -> usize
-    requires { ⌜ 41 ≤ length (now line) ⌝ }
-    ensures { λ r. ⌜ r ≤ 41 ⌝ }
+    ensures { λ r. ⌜ Counts r (now (line .exit)) ⌝ }
 {
     let at = put_number(line, 0, note.index as u64);
     if note.coded {
         return put_next(line, at, note.input as u64);
     }
     put_text(line, at, b" -")
+}
+
+fn put_two(line: &mut [u8], at: usize, m: u64, n: u64) -> usize
+    ensures { λ r. ⌜ Counts r (now (line .exit)) ⌝ }
+{
+    let after = put_next(line, at, m);
+    put_next(line, after, n)
 }

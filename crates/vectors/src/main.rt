@@ -8,7 +8,6 @@ mod magnitudes;
 mod names;
 mod runs;
 mod signs;
-mod text;
 
 ghost use Prim.Native.Nat.{_≤_};
 ghost use lib.ListN.{length};

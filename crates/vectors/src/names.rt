@@ -1,17 +1,14 @@
 // The names of the sequences, made as in 004: R or H, the input, x and y of the pair, and the laws.
-ghost use Prim.Native.Nat.{_≤_};
-ghost use lib.ListN.{length};
+ghost use Rattle.io.specs.Counts.{Counts};
 ghost use Rattle.vectors.specs.Pairs.{NinePairs};
 use crate::runs::Kind;
 use crate::runs::Run;
-use crate::text::blank;
-use crate::text::put_text;
 use libc::STDERR_FILENO;
+use text::put_text;
 
 pub fn put_name(line: &mut [u8], run: Run) -> usize
     requires { ⌜ NinePairs (run .width) (run .core) ⌝ }
-    requires { ⌜ 8 ≤ length (now line) ⌝ }
-    ensures { λ r. ⌜ r ≤ 8 ⌝ }
+    ensures { λ r. ⌜ Counts r (now (line .exit)) ⌝ }
 {
     let kind = run.kind;
     let at = put_input(line, run.homed, kind);
@@ -25,8 +22,7 @@ pub fn put_name(line: &mut [u8], run: Run) -> usize
 }
 
 fn put_input(line: &mut [u8], homed: bool, kind: Kind) -> usize
-    requires { ⌜ 4 ≤ length (now line) ⌝ }
-    ensures { λ r. ⌜ r ≤ 4 ⌝ }
+    ensures { λ r. ⌜ Counts r (now (line .exit)) ⌝ }
 {
     if let Kind::Held = kind {
         return put_text(line, 0, b"HELD");
@@ -59,9 +55,9 @@ fn law_letter(laws: usize) -> u8 {
 pub fn is_named(run: Run, given: &[u8]) -> bool
     requires { ⌜ NinePairs (run .width) (run .core) ⌝ }
 {
-    let mut line = blank();
+    let mut line = io::buffer();
     let n = put_name(&mut line, run);
-    check::same(&line[0..n], given)
+    check::same(&line[..n], given)
 }
 
 pub fn say_unknown(given: &[u8]) {

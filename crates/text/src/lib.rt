@@ -1,8 +1,10 @@
 // A line is made in a buffer, from its start on, and written as a whole. Each function here answers where the next one
-// goes on. What has no room is left out; a line of this tool has room enough in the 4,096 octets of io::buffer.
-ghost use Rattle.io.specs.Counts.{Counts};
+// goes on. What has no room is left out; io::buffer has room enough for every line of the programs.
+// Assumes nothing.
+pub mod variables;
+
 ghost use Prim.Native.Nat.{_≤_};
-ghost use lib.ListN.{length};
+ghost use Rattle.io.specs.Counts.{Counts};
 
 pub fn put_text(line: &mut [u8], at: usize, text: &[u8]) -> usize
     ensures { λ r. ⌜ Counts r (now (line .exit)) ⌝ }
@@ -29,16 +31,44 @@ pub fn put_number(line: &mut [u8], at: usize, n: u64) -> usize
 pub fn put_next(line: &mut [u8], at: usize, n: u64) -> usize
     ensures { λ r. ⌜ Counts r (now (line .exit)) ⌝ }
 {
-    let after = put_text(line, at, b" ");
+    put_marked(line, at, b' ', n)
+}
+
+// The mark, and the number
+pub fn put_marked(line: &mut [u8], at: usize, mark: u8, n: u64) -> usize
+    ensures { λ r. ⌜ Counts r (now (line .exit)) ⌝ }
+{
+    let after = put(line, at, mark);
     put_number(line, after, n)
 }
 
-pub fn put_three(line: &mut [u8], at: usize, l: u64, m: u64, n: u64) -> usize
+// One octet
+pub fn put(line: &mut [u8], at: usize, octet: u8) -> usize
     ensures { λ r. ⌜ Counts r (now (line .exit)) ⌝ }
 {
-    let first = put_next(line, at, l);
-    let second = put_next(line, first, m);
-    put_next(line, second, n)
+    let one = [octet];
+    put_text(line, at, &one)
+}
+
+// Two hexadecimal digits each, with nothing between
+pub fn put_octets(line: &mut [u8], at: usize, octets: &[u8]) -> usize
+    ensures { λ r. ⌜ Counts r (now (line .exit)) ⌝ }
+{
+    let mut to = within(at, line);
+    let mut i = 0;
+    while i < octets.len() {
+        to = put_octet(line, to, octets[i]);
+        i += 1;
+    }
+    to
+}
+
+fn put_octet(line: &mut [u8], at: usize, octet: u8) -> usize
+    ensures { λ r. ⌜ Counts r (now (line .exit)) ⌝ }
+{
+    let mut digits = [0u8; 16];
+    let k = io::hex(octet as u64, 2, &mut digits);
+    put_text(line, at, &digits[..k])
 }
 
 // n, or the buffer's length where n is greater

@@ -1,9 +1,9 @@
--- `parchfennel::text::within` meets its contract.
+-- `text::within` meets its contract.
 -- Assumes nothing.
 use native.Mathlib.Omega.{arith}
 use Rattle.io.proofs.Counting.{counts}
-use Rattle.parchfennel.proofs.text.within.Statement.{statement}
-use Rattle.parchfennel.proofs.text.within.Tie as tie
+use Rattle.text.proofs.within.Statement.{statement}
+use Rattle.text.proofs.within.Tie as tie
 
 returns : tie.Need-returns
 returns c = counts _ _ (omega arith)

@@ -1,17 +1,27 @@
--- `vectors::text::put_text` meets its contract. The loop's invariant: the line keeps its length. The measure is what is left of the text.
+-- `text::put_text` meets its contract. The loop's invariant: the line keeps its length. The measure is what is left to put.
 -- Assumes nothing.
 use mathlib.Core.Path.{_≡_}
 use Prim.Native.Nat.{_-_, _≤_}
 use native.Mathlib.Omega.{arith}
 use lib.ListN.{length, length-set}
-use Rattle.vectors.proofs.text.put_text.Statement.{statement}
-use Rattle.vectors.proofs.text.put_text.Tie as tie
+use Rattle.io.proofs.Counting.{counts}
+use Rattle.text.proofs.put_text.Statement.{statement}
+use Rattle.text.proofs.put_text.Tie as tie
 
 abbrev Inv-loop : tie.InvT-loop
-Inv-loop line₀ at text i₀ line i = (i ≤ length text) × (length line ≡ length line₀)
+Inv-loop line₀ at text to n i₀ line i = (i ≤ n) × (length line ≡ length line₀)
 
 abbrev μ-loop : tie.MeasureT-loop
-μ-loop line₀ at text i₀ line i = length text - i
+μ-loop line₀ at text to n i₀ line i = n - i
+
+within-requires : tie.Need-within-requires Inv-loop μ-loop
+within-requires c κs = tt
+
+sub-least : tie.Need-sub-least Inv-loop μ-loop
+sub-least c = omega arith
+
+least-requires : tie.Need-least-requires Inv-loop μ-loop
+least-requires c κs = tt
 
 loop-holds : tie.Need-loop-holds Inv-loop μ-loop
 loop-holds c = omega arith
@@ -41,7 +51,7 @@ same-length : tie.Need-same-length Inv-loop μ-loop
 same-length c = omega arith
 
 returns : tie.Need-returns Inv-loop μ-loop
-returns c = omega arith
+returns c = counts _ _ (omega arith)
 
 pub put-text-spec : {M : Type 1} → statement M
 put-text-spec =
@@ -49,6 +59,9 @@ put-text-spec =
     (tie.spec
     Inv-loop
     μ-loop
+    within-requires
+    sub-least
+    least-requires
     loop-holds
     shared-slice-read-line
     add-line
