@@ -2,6 +2,8 @@
 use crate::report::refuse;
 use crate::report::say_cut;
 use crate::report::show_state;
+use crate::stream::Turn;
+use crate::stream::ended;
 use crate::stream::is_cut;
 use crate::stream::passed;
 use crate::stream::read_frame;
@@ -20,13 +22,6 @@ pub struct Wish {
     pub law: u8,
 }
 
-// Whether there may be a next frame, where it begins in the stream, and the state that it meets
-pub struct Step {
-    pub more: bool,
-    pub octet: u64,
-    pub state: State,
-}
-
 pub fn run(verbose: bool) {
     if !are_words(verbose, 2, 3) {
         return;
@@ -38,41 +33,41 @@ pub fn run(verbose: bool) {
     let started = reset(2);
     let state = started.state;
     let wish = Wish { verbose, law };
-    let step = Step {
+    let turn = Turn {
         more: true,
         octet: 0,
         state,
     };
-    decode_all(wish, step);
+    decode_all(wish, turn);
 }
 
 // It ends before a frame whose index no run reaches (encoding.rt).
-fn decode_all(wish: Wish, from: Step) {
-    let mut step = from;
+fn decode_all(wish: Wish, from: Turn) {
+    let mut turn = from;
     let mut frame = 0;
-    while frame < u64::MAX && step.more {
-        step = decode_next(wish, step, frame);
+    while frame < u64::MAX && turn.more {
+        turn = decode_next(wish, turn, frame);
         frame += 1;
     }
 }
 
-fn decode_next(wish: Wish, step: Step, frame: u64) -> Step {
+fn decode_next(wish: Wish, turn: Turn, frame: u64) -> Turn {
     let mut octets = io::buffer();
     let n = read_frame(&mut octets);
     if n == 0 {
-        return ended(step);
+        return ended(turn);
     }
     if is_cut(&octets[..n]) {
-        say_cut(frame, step.octet, n);
-        return ended(step);
+        say_cut(frame, turn.octet, n);
+        return ended(turn);
     }
-    let s = step.state;
+    let s = turn.state;
     let state = state_at(frame, octets[0], s);
     hear(
         wish,
-        Step {
+        Turn {
             more: true,
-            octet: step.octet,
+            octet: turn.octet,
             state,
         },
         frame,
@@ -90,25 +85,16 @@ fn state_at(frame: u64, first: u8, s: State) -> State {
     state
 }
 
-fn ended(step: Step) -> Step {
-    let state = step.state;
-    Step {
-        more: false,
-        octet: step.octet,
-        state,
-    }
-}
-
 // The octets are written and the state goes on, or the tool stops
-fn hear(wish: Wish, step: Step, frame: u64, octets: &[u8]) -> Step {
-    let state = step.state;
+fn hear(wish: Wish, turn: Turn, frame: u64, octets: &[u8]) -> Turn {
+    let state = turn.state;
     let mut out = io::buffer();
     let heard = decode(state, wish.law, octets, &mut out);
     let reply = heard.reply;
     let number = number_of(reply);
     if number != 0 {
-        refuse(frame, step.octet, number);
-        return ended(step);
+        refuse(frame, turn.octet, number);
+        return ended(turn);
     }
     let n = within(heard.octets, &out);
     let more = write_octets(&out[..n]);
@@ -116,9 +102,9 @@ fn hear(wish: Wish, step: Step, frame: u64, octets: &[u8]) -> Step {
     if wish.verbose {
         show_state(frame, next);
     }
-    Step {
+    Turn {
         more,
-        octet: passed(step.octet, octets),
+        octet: passed(turn.octet, octets),
         state: next,
     }
 }

@@ -3,6 +3,8 @@ ghost use Rattle.io.specs.Counts.{Counts};
 use crate::report::refuse;
 use crate::report::say_filled;
 use crate::report::show_state;
+use crate::stream::Turn;
+use crate::stream::ended;
 use crate::stream::passed;
 use crate::stream::read_part;
 use crate::stream::write_octets;
@@ -25,13 +27,6 @@ pub struct Plan {
     pub law: u8,
     pub width: u8,
     pub samples: usize,
-}
-
-// Whether there may be a next frame, where it begins in the stream, and the state that it meets
-pub struct Turn {
-    pub more: bool,
-    pub octet: u64,
-    pub state: State,
 }
 
 pub fn run(verbose: bool) {
@@ -127,15 +122,6 @@ fn encode_next(plan: Plan, turn: Turn, frame: u64) -> Turn {
     }
     let n = fill(&mut samples, got, lacking, silence(plan.law));
     send(plan, turn, frame, &samples[..n])
-}
-
-fn ended(turn: Turn) -> Turn {
-    let state = turn.state;
-    Turn {
-        more: false,
-        octet: turn.octet,
-        state,
-    }
 }
 
 fn silence(law: u8) -> u8 {

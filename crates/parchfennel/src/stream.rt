@@ -6,6 +6,7 @@ use frame::format::bad_pair;
 use frame::format::wrong_with;
 use libc::STDIN_FILENO;
 use libc::STDOUT_FILENO;
+use state::State;
 use text::least;
 use text::within;
 
@@ -13,6 +14,22 @@ use text::within;
 pub struct Pass {
     pub more: bool,
     pub octet: u64,
+}
+
+// The same after a frame that leaves a state, with the state that the next one meets
+pub struct Turn {
+    pub more: bool,
+    pub octet: u64,
+    pub state: State,
+}
+
+pub fn ended(turn: Turn) -> Turn {
+    let state = turn.state;
+    Turn {
+        more: false,
+        octet: turn.octet,
+        state,
+    }
 }
 
 // Reads octets from index `from` on up to index `to`, and answers the index up to which there are some

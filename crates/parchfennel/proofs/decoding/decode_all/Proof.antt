@@ -6,10 +6,10 @@ use Rattle.parchfennel.proofs.decoding.decode_all.Statement.{statement}
 use Rattle.parchfennel.proofs.decoding.decode_all.Tie as tie
 
 abbrev Inv-loop : tie.InvT-loop
-Inv-loop wish step₀ frame₀ step frame = Unit {0}
+Inv-loop wish turn₀ frame₀ turn frame = Unit {0}
 
 abbrev μ-loop : tie.MeasureT-loop
-μ-loop wish step₀ frame₀ step frame = 2 ^ 64 - frame
+μ-loop wish turn₀ frame₀ turn frame = 2 ^ 64 - frame
 
 loop-holds : tie.Need-loop-holds Inv-loop μ-loop
 loop-holds c = tt
