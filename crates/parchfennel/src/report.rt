@@ -55,10 +55,10 @@ fn put_reason(line: &mut [u8], at: usize, number: u8) -> usize
 pub fn say_cut(frame: u64, octet: u64, there: usize) {
     let mut line = io::buffer();
     let at = put_frame(&mut line, frame, octet);
-    let ends = put_text(&mut line, at, b": the stream ends inside the frame, after ");
-    let counted = put_number(&mut line, ends, there as u64);
-    let octets = put_text(&mut line, counted, b" octets of it");
-    let n = put_call(&mut line, octets);
+    let ends = put_text(&mut line, at, b": the stream ends inside the frame");
+    let octets = put_text(&mut line, ends, b"; octets of it: ");
+    let counted = put_number(&mut line, octets, there as u64);
+    let n = put_call(&mut line, counted);
     io::write_all(STDERR_FILENO, &line[..n]);
 }
 
@@ -74,7 +74,7 @@ pub fn say_unknown(verbose: bool, i: usize) {
 }
 
 pub fn say_no_number(verbose: bool, i: usize) {
-    say_word(verbose, i, b"parchfennel: no number: ");
+    say_word(verbose, i, b"parchfennel: not a number: ");
 }
 
 // What is wrong, and the word
@@ -113,9 +113,9 @@ fn put_call(line: &mut [u8], at: usize) -> usize
 pub fn say_filled(frame: u64, octet: u64, samples: usize) {
     let mut line = io::buffer();
     let at = put_frame(&mut line, frame, octet);
-    let filled = put_text(&mut line, at, b": filled up with silence by ");
+    let filled = put_text(&mut line, at, b": filled up with silence; samples added: ");
     let counted = put_number(&mut line, filled, samples as u64);
-    let n = put_text(&mut line, counted, b" samples\n");
+    let n = put_text(&mut line, counted, b"\n");
     io::write_all(STDERR_FILENO, &line[..n]);
 }
 

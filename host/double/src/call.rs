@@ -95,7 +95,7 @@ fn octet(word: &str) -> Result<u8, String> {
 
 fn number(word: &str) -> Result<usize, String> {
     if word.is_empty() || !word.bytes().all(|letter| letter.is_ascii_digit()) {
-        return Err(format!("no number: {}", shown(word)));
+        return Err(format!("not a number: {}", shown(word)));
     }
     Ok(word.parse().unwrap_or(usize::MAX))
 }
@@ -144,7 +144,7 @@ mod tests {
             ("encode mu 5", "a word is missing"),
             ("encode u 5 x", "unknown word: u"),
             ("drop 2 3", "unknown word: 3"),
-            ("drop two", "no number: two"),
+            ("drop two", "not a number: two"),
             ("inspect -v", "unknown word: -v"),
         ] {
             assert_eq!(read(words), Err(told(wrong)), "{words}");

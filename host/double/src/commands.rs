@@ -94,7 +94,7 @@ fn fill(
             Law::A => 0xD5,
         };
         samples.resize(whole, silence);
-        let line = place.line(&format!("filled up with silence by {lacking} samples"));
+        let line = place.line(&format!("filled up with silence; samples added: {lacking}"));
         streams.say(&named(&line))?;
     }
     Ok(())

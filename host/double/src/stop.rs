@@ -29,7 +29,7 @@ pub fn refused(place: Place, number: u8) -> String {
 }
 
 pub fn cut(place: Place, octets: usize) -> String {
-    let what = format!("the stream ends inside the frame, after {octets} octets of it");
+    let what = format!("the stream ends inside the frame; octets of it: {octets}");
     told(&place.line(&what))
 }
 
