@@ -1,6 +1,7 @@
 // The ends of 01's table of ranges, and one past them: encode and decode take a state at an end, and refuse one past it.
 use crate::coding::asked;
 use crate::coding::encode_case;
+use crate::coding::header;
 use crate::due::done;
 use crate::due::refused;
 use crate::hearing::decode_case;
@@ -19,7 +20,7 @@ pub fn ranges(t: Tally) -> Tally {
 
 fn taken(t: Tally, name: &[u8], s: State) -> Tally {
     let t1 = encode_case(t, name, s, asked(0, 5, 8, 512), done(7));
-    decode_case(t1, name, s, plain(0x6A, 1, 7), done(8))
+    decode_case(t1, name, s, plain(header(5, s.core), 1, 7), done(8))
 }
 
 fn past(t: Tally, name: &[u8], s: State) -> Tally {
@@ -87,5 +88,6 @@ fn flags(t: Tally) -> Tally {
 fn cores(t: Tally) -> Tally {
     let t1 = past(t, b"core 1", with_core(1));
     let t2 = taken(t1, b"core 2", ready(2));
-    past(t2, b"core 5", with_core(5))
+    let t3 = taken(t2, b"core 4", ready(4));
+    past(t3, b"core 5", with_core(5))
 }
