@@ -60,7 +60,7 @@ pub fn some_count(seed: &mut u64) -> usize
     }
 }
 
-// A frame's length
+// A frame's length; widths above 6 count as 6
 pub fn octets_of(width: u8, samples: usize) -> usize {
     let groups = samples / 8 % 256;
     match width {
@@ -74,7 +74,7 @@ pub fn octets_of(width: u8, samples: usize) -> usize {
     }
 }
 
-// As much as is needed, or one octet less or more, or none
+// As much as is needed, or one octet less or more, or one at most
 pub fn some_room(needed: usize, seed: &mut u64) -> usize
     ensures { λ r. ⌜ r ≤ 512 ⌝ }
 {
