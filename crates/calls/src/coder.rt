@@ -1,4 +1,4 @@
-// encode(state, law, width, samples, out)
+// The call encode: its number, the work, the answer (specs/Encode.antt). Assumes nothing.
 ghost use mathlib.Core.Path.{_≡_};
 ghost use mathlib.Core.List.{_++_};
 ghost use Prim.Native.Nat.{_*_, _≤_, _<_};

@@ -1,4 +1,4 @@
-// decode(state, law, frame, out)
+// The call decode: its number, the work, the answer (specs/Decode.antt). Assumes nothing.
 ghost use mathlib.Core.Path.{_≡_};
 ghost use Prim.Native.Nat.{_≤_, _<_};
 ghost use lib.ListN.{length};

@@ -1,4 +1,4 @@
-// drop_planes(frame, width, out)
+// The call drop_planes: its number, the work, the answer (specs/Drop.antt). Assumes nothing.
 ghost use mathlib.Core.Path.{_≡_};
 ghost use Prim.Native.Nat.{_≤_, _<_};
 ghost use lib.ListN.{length};

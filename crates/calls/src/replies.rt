@@ -1,4 +1,4 @@
-// The reply that bears a number.
+// Replies and their numbers, both ways.
 ghost use mathlib.Core.Path.{_≡_};
 ghost use Prim.Native.Nat.{_≤_};
 ghost use Rattle.calls.specs.Reply.{numberOf};

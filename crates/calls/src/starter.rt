@@ -1,4 +1,4 @@
-// reset(core)
+// The call reset: its reply and the state that it hands out (specs/Reset.antt). Assumes nothing.
 ghost use Rattle.calls.specs.Reset.{Resets};
 use crate::Reply;
 use crate::Started;
