@@ -1,8 +1,7 @@
 // The call encode: its number, the work, the answer (specs/Encode.antt). Assumes nothing.
 ghost use mathlib.Core.Path.{_≡_};
-ghost use mathlib.Core.List.{_++_};
-ghost use Prim.Native.Nat.{_*_, _≤_, _<_};
-ghost use lib.ListN.{length, drop};
+ghost use Prim.Native.Nat.{_*_, _≤_};
+ghost use lib.ListN.{length};
 ghost use Rattle.state.specs.InRange.{InRange};
 ghost use Rattle.sample.specs.Pair.{Pair};
 ghost use Rattle.frame.specs.Format.{group, mostGroups};

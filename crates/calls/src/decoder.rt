@@ -1,6 +1,5 @@
 // The call decode: its number, the work, the answer (specs/Decode.antt). Assumes nothing.
 ghost use mathlib.Core.Path.{_≡_};
-ghost use Prim.Native.Nat.{_≤_, _<_};
 ghost use lib.ListN.{length};
 ghost use Rattle.calls.specs.Decode.{decodeNumber, Decodes};
 ghost use Rattle.calls.specs.Inner.{Playable, PlaysFrame};

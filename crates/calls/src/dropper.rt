@@ -1,7 +1,5 @@
 // The call drop_planes: its number, the work, the answer (specs/Drop.antt). Assumes nothing.
 ghost use mathlib.Core.Path.{_≡_};
-ghost use Prim.Native.Nat.{_≤_, _<_};
-ghost use lib.ListN.{length};
 ghost use Rattle.calls.specs.Drop.{dropNumber, Drops};
 use crate::Dropped;
 use crate::Reply;

@@ -5,6 +5,7 @@ use calls::decoder::decode;
 use calls::dropper::drop_planes;
 use calls::replies::number_of;
 use calls::starter::reset;
+use checksum::same_state;
 use libc::STDOUT_FILENO;
 use state::State;
 
@@ -30,6 +31,15 @@ fn send(near: State, far: State) {
     tell(b"encode: reply ", sent_reply, n);
     tell(b"drop: reply ", kept_reply, m);
     tell(b"decode: reply ", heard_reply, heard.octets);
+    let after = sent.state;
+    let behind = heard.state;
+    compare(after, behind);
+}
+
+fn compare(near: State, far: State) {
+    if same_state(near, far) {
+        io::write_all(STDOUT_FILENO, b"both ends have the same state\n");
+    }
 }
 
 fn tell(call: &[u8], reply: Reply, octets: usize) {

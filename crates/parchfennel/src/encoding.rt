@@ -17,6 +17,7 @@ use crate::words::octet_of;
 use calls::coder::encode;
 use calls::replies::number_of;
 use calls::starter::reset;
+use frame::format::GROUP;
 use state::State;
 use text::least;
 use text::within;
@@ -116,7 +117,7 @@ fn encode_next(plan: Plan, turn: Turn, frame: u64) -> Turn {
     if got == 0 {
         return ended(turn);
     }
-    let lacking = (8 - got % 8) % 8;
+    let lacking = (GROUP - got % GROUP) % GROUP;
     if 0 < lacking {
         say_filled(frame, turn.octet, lacking);
     }

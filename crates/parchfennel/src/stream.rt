@@ -1,6 +1,8 @@
 // Standard input in whole pieces: a count of octets, or a frame as long as its header says. Where a read fails it is
 // said, and what was read stands as if the stream had ended.
 ghost use Rattle.io.specs.Counts.{Counts};
+use frame::format::EDITION;
+use frame::format::HEADER_LENGTH;
 use frame::format::bad_groups;
 use frame::format::bad_pair;
 use frame::format::wrong_with;
@@ -64,29 +66,29 @@ fn read_once(part: &mut [u8]) -> usize
 pub fn read_frame(buf: &mut [u8]) -> usize
     ensures { λ r. ⌜ Counts r (now (buf .exit)) ⌝ }
 {
-    let head = read_part(buf, 0, 2);
-    if head < 2 {
+    let head = read_part(buf, 0, HEADER_LENGTH);
+    if head < HEADER_LENGTH {
         return head;
     }
     let end = end_of(buf[0], buf[1]);
-    read_part(buf, 2, end)
+    read_part(buf, HEADER_LENGTH, end)
 }
 
 // How long the frame is that begins with these two octets
 fn end_of(first: u8, g: u8) -> usize {
-    if first >> 6 != 1 {
-        return 2;
+    if first >> 6 != EDITION {
+        return HEADER_LENGTH;
     }
     let x = (first >> 3) % 8;
     if bad_pair(x, first % 8) | bad_groups(g) {
-        return 2;
+        return HEADER_LENGTH;
     }
-    2 + (x as usize) * (g as usize)
+    HEADER_LENGTH + (x as usize) * (g as usize)
 }
 
 // Whether the stream ended inside the frame
 pub fn is_cut(frame: &[u8]) -> bool {
-    if frame.len() < 2 {
+    if frame.len() < HEADER_LENGTH {
         return true;
     }
     wrong_with(frame) == 6

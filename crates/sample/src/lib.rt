@@ -1,7 +1,6 @@
 // One sample at a time: an octet of speech encoded, a codeword decoded. Both ends move their state by the core bits of
 // the codeword, through the engine; the whole codeword feeds the frame and the output path alone.
 ghost use mathlib.Core.Path.{_≡_};
-ghost use Prim.Native.Nat.{_<_};
 ghost use lib.Dec.{eqb};
 ghost use Rattle.words.specs.Notation.{pick};
 ghost use Rattle.quantizer.specs.Codeword.{Codeword};

@@ -11,6 +11,7 @@ use Rattle.example.proofs.send.Lts as lts
 use Rattle.calls.proofs.coder.encode.Reads as encode-reads
 use Rattle.calls.proofs.decoder.decode.Reads as decode-reads
 use Rattle.calls.proofs.dropper.drop_planes.Reads as drop-planes-reads
+use Rattle.example.proofs.compare.Reads as compare-reads
 use Rattle.example.proofs.tell.Reads as tell-reads
 
 slice-aggregate-encode : tie.Need-slice-aggregate-encode
@@ -68,6 +69,9 @@ slice-aggregate-tell-3 c = search needs
 tell-requires-3 : tie.Need-tell-requires-3
 tell-requires-3 c κs = search needs
 
+compare-requires : tie.Need-compare-requires
+compare-requires c κs = search needs
+
 returns : tie.Need-returns
 returns c = search needs
 
@@ -92,4 +96,5 @@ send-spec =
     tell-requires-2
     slice-aggregate-tell-3
     tell-requires-3
+    compare-requires
     returns)
