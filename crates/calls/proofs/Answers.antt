@@ -1,9 +1,8 @@
 -- Answers put together: what a refusal leaves, what a success gives, and that no number is above 9.
 -- Assumes nothing.
-use mathlib.Core.Bool.{Bool, _||_}
-use mathlib.Core.List.{List, _++_}
-use mathlib.Core.Path.{_≡_, refl, sym, ap, _∙_}
-use Prim.Native.Nat.{ℕ, _*_, _/_, _≤_, _<_}
+use mathlib.Core.List.{List}
+use mathlib.Core.Path.{_≡_}
+use Prim.Native.Nat.{ℕ, _*_, _/_, _≤_}
 use native.Mathlib.Omega.{arith}
 use lib.Dec.{eqb, ltb}
 use lib.ListN.{length, getD, take, drop}
@@ -11,7 +10,6 @@ use lib.Seq.{take-at}
 use borrow.Author.Tests.{eq-eqb, ne-eqb}
 use Rattle.words.specs.Notation.{pick}
 use Rattle.words.proofs.Pick.{pick-le}
-use Rattle.lists.specs.Run.{outs}
 use Rattle.lists.proofs.Runs.{outs-length}
 use Rattle.state.specs.declared.State.{State}
 use Rattle.state.specs.Range.{inRange}

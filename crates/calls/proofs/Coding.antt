@@ -1,12 +1,11 @@
 -- The loop that encodes all samples: the state so far is in range and of the same core, the run of the rest is the whole run, and the
 -- codewords so far stand in the buffer.
 -- Assumes nothing.
-use mathlib.Core.Path.{_≡_, refl, sym, ap, _∙_}
-use mathlib.Core.List.{List, _++_}
+use mathlib.Core.Path.{_≡_, refl, _∙_}
+use mathlib.Core.List.{List}
 use Prim.Native.Nat.{ℕ, _+_, _≤_, _<_}
-use native.Mathlib.Omega.{arith}
-use lib.ListN.{length, getD, drop, set}
-use Rattle.lists.specs.Run.{last, outs}
+use lib.ListN.{length, getD, set}
+use Rattle.lists.specs.Run.{outs}
 use Rattle.lists.proofs.Filled.{Filled, filled-none, filled-more, filled-all}
 use Rattle.lists.proofs.Runs.{outs-length}
 use Rattle.lists.proofs.Running.{Running, running-none, running-more, running-done, Putting, putting-none, putting-at, putting-more}

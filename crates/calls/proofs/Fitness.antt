@@ -1,25 +1,21 @@
 -- What a call's 0 says of its inputs, and that fit inputs get no other number.
 -- Assumes nothing.
-use mathlib.Core.Bool.{Bool, true, false, _||_}
+use mathlib.Core.Bool.{_||_}
 use mathlib.Core.List.{List}
-use mathlib.Core.Path.{_≡_, refl, sym, _∙_}
-use Prim.Native.Nat.{ℕ, _*_, _/_, _≤_, _<_}
+use mathlib.Core.Path.{_≡_}
+use Prim.Native.Nat.{ℕ, _*_, _/_, _≤_}
 use native.Mathlib.Omega.{arith}
 use lib.Dec.{eqb, ltb}
-use lib.ListN.{length}
 use borrow.Author.Tests.{ltb-false, le-ltb, eqb-true, eqb-false, eq-eqb}
 use Rattle.words.specs.Notation.{pick}
 use Rattle.words.specs.Within.{Within}
 use Rattle.words.proofs.Pick.{cases, passed, held}
 use Rattle.state.specs.declared.State.{State}
 use Rattle.state.specs.Range.{inRange}
-use Rattle.state.specs.InRange.{InRange}
 use Rattle.state.proofs.Ranges.{range-says, range-of}
-use Rattle.sample.specs.Pair.{Pair}
 use Rattle.frame.specs.Format.{group, frameLength, badPair, badCount}
 use Rattle.frame.specs.Read.{frameWidth, frameCore, frameGroups}
 use Rattle.frame.specs.Wrong.{wrongWith}
-use Rattle.frame.specs.Sound.{Sound}
 use Rattle.frame.proofs.Sounds.{pair-says, pair-of, count-says, count-of, sound-says, sound-of, neither-left, neither-right}
 use Rattle.calls.specs.Reply.{badLaw}
 use Rattle.calls.specs.Encode.{encodeNumber}

@@ -1,14 +1,14 @@
 -- The loop that decodes all samples of a frame: the state so far is in range and of the same core, the run of the rest is the whole run, the
 -- bytes so far stand in the buffer, and the moved samples so far are counted.
 -- Assumes nothing.
-use mathlib.Core.Path.{_≡_, refl, sym, ap, _∙_}
-use mathlib.Core.List.{List, _++_}
-use Prim.Native.Nat.{ℕ, _+_, _*_, _^_, _≤_, _<_}
+use mathlib.Core.Path.{_≡_, refl, _∙_}
+use mathlib.Core.List.{List}
+use Prim.Native.Nat.{ℕ, _+_, _*_, _≤_, _<_}
 use native.Mathlib.Omega.{arith}
 use lib.Dec.{eqb}
-use lib.ListN.{length, getD, drop, set}
+use lib.ListN.{length, getD, set}
 use Rattle.words.proofs.Pick.{pick-le}
-use Rattle.lists.specs.Run.{last, outs, total}
+use Rattle.lists.specs.Run.{outs}
 use Rattle.lists.proofs.Filled.{Filled, filled-none, filled-more, filled-all}
 use Rattle.lists.proofs.Runs.{outs-length}
 use Rattle.lists.proofs.Running.{Running, running-none, running-more, running-done, Putting, putting-none, putting-at, putting-more, Summing, summing-none, summing-more, summing-done}
@@ -24,10 +24,9 @@ use Rattle.frame.specs.Format.{group}
 use Rattle.frame.specs.Read.{frameWidth, frameCore, frameGroups, received}
 use Rattle.frame.specs.Sound.{Sound}
 use Rattle.frame.proofs.Received.{received-length, received-short}
-use Rattle.calls.specs.declared.decoder.Played.{Played}
 use Rattle.calls.specs.Decode.{next, byte, decodedState, decodedBytes, decodedMoved}
 use Rattle.calls.specs.Decode as calls
-use Rattle.calls.specs.Inner.{Playable, PlaysFrame}
+use Rattle.calls.specs.Inner.{PlaysFrame}
 use Rattle.calls.proofs.Coding.{pair-kept}
 
 pub moved-bit : (s : State) (LAW width I : ℕ) → decodeOf s LAW width I .moved ≤ 1

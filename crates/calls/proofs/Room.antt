@@ -2,7 +2,7 @@
 -- Assumes nothing.
 use mathlib.Core.List.{List}
 use mathlib.Core.Path.{_≡_}
-use Prim.Native.Nat.{ℕ, _*_, _/_, _≤_}
+use Prim.Native.Nat.{ℕ, _≤_}
 use native.Mathlib.Omega.{arith}
 use lib.Dec.{eqb}
 use lib.ListN.{length}
@@ -10,8 +10,6 @@ use borrow.Author.Tests.{eqb-true}
 use Rattle.words.specs.Notation.{pick}
 use Rattle.words.proofs.Pick.{by-pick}
 use Rattle.state.specs.declared.State.{State}
-use Rattle.frame.specs.Format.{group, frameLength}
-use Rattle.frame.specs.Read.{frameGroups}
 use Rattle.calls.specs.Encode.{encodeReply, encodeOctets}
 use Rattle.calls.specs.Decode.{decodeReply, decodeOctets}
 use Rattle.calls.specs.Drop.{dropReply, dropOctets}

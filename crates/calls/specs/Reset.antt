@@ -1,5 +1,5 @@
 -- The call `reset(core)`: row 1 only, "for a core not 2 to 4, and it then hands back the reset state of core 2". Assumes nothing.
-use mathlib.Core.Bool.{Bool, _||_}
+use mathlib.Core.Bool.{_||_}
 use mathlib.Core.Path.{_≡_}
 use Prim.Native.Nat.{ℕ}
 use lib.Dec.{eqb, ltb}

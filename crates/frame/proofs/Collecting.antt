@@ -1,11 +1,11 @@
 -- The loop that collects a sample's bits from the planes, by what is left to collect.
 -- Assumes nothing.
-use mathlib.Core.Path.{_≡_, refl, sym, ap, _∙_}
+use mathlib.Core.Path.{_≡_, sym, ap, _∙_}
 use mathlib.Core.List.{List}
 use Prim.Native.Nat.{ℕ, suc, _+_, _-_, _*_, _/_, _%_, _^_, _≤_, _<_}
 use native.Mathlib.Nat.{suc-mul, pow-suc}
 use native.Mathlib.Omega.{arith}
-use lib.ListN.{length, getD, drop}
+use lib.ListN.{getD, drop}
 use lib.Pow.{pow-mono}
 use lib.Seq.{drop-drop, getD-drop}
 use Rattle.frame.specs.Format.{group}

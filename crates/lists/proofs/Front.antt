@@ -1,12 +1,12 @@
 -- A buffer d that is written part by part from the front: `at` places of `whole` are written, `left` is still to come, and behind them
 -- stands what d held. The parts are lent to whoever writes them.
 -- Assumes nothing.
-use mathlib.Core.Path.{_≡_, refl, sym, ap, _∙_}
-use mathlib.Core.List.{List, [], _∷_, _++_, append-assoc, append-nil}
+use mathlib.Core.Path.{_≡_, refl, sym, _∙_}
+use mathlib.Core.List.{List, [], _++_, append-assoc, append-nil}
 use Prim.Native.Nat.{ℕ, _+_, _≤_}
 use native.Mathlib.Omega.{arith}
 use lib.ListN.{length, take, drop, length-append, length-take, length-drop, take-append-drop}
-use lib.Seq.{length-take-le, take-at, drop-at, drop-drop}
+use lib.Seq.{take-at, drop-at, drop-drop}
 
 module _ {A : Type 0} (d whole : List A) where
   pub record Front (at : ℕ) (left out : List A) : Type 0 where

@@ -1,6 +1,6 @@
 -- The list of f 0, f 1, .. f (n - 1). Assumes nothing.
 use mathlib.Core.List.{List, [], _∷_}
-use Prim.Native.Nat.{ℕ, zero, suc, _+_}
+use Prim.Native.Nat.{ℕ, zero, suc}
 
 module _ {A : Type 0} where
   -- n entries from i on

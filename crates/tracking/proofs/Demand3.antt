@@ -3,18 +3,16 @@
 -- encodeState and decodeState of the calls' contracts say, which a call that keeps the reset state does not give.
 -- Assumes nothing.
 use mathlib.Core.List.{List, [], _∷_, map}
-use mathlib.Core.Path.{_≡_, refl, sym, ap, _∙_}
-use Prim.Native.Nat.{ℕ, _-_, _*_, _/_, _^_, _≤_, _<_}
+use mathlib.Core.Path.{_≡_, _∙_}
+use Prim.Native.Nat.{ℕ, _*_, _/_, _<_}
 use native.Mathlib.Omega.{arith}
-use lib.ListN.{length, getD}
+use lib.ListN.{length}
 use borrow.Author.Tests.{eq-eqb}
 use Rattle.words.specs.Within.{Within}
-use Rattle.lists.specs.Run.{last, outs}
+use Rattle.lists.specs.Run.{outs}
 use Rattle.state.specs.declared.State.{State}
-use Rattle.state.specs.InRange.{InRange}
 use Rattle.sample.specs.Pair.{Pair}
 use Rattle.frame.specs.Format.{group, mostGroups}
-use Rattle.frame.specs.Planes.{frameOf}
 use Rattle.frame.specs.Read.{frameWidth, frameCore, received, thinned}
 use Rattle.frame.specs.Sound.{Sound}
 use Rattle.frame.proofs.Fields.{written-fields, thinned-fields}
@@ -23,12 +21,12 @@ use Rattle.frame.proofs.Thinning.{received-thinned}
 use Rattle.frame.proofs.Kept.{written-sound}
 use Rattle.calls.specs.Reset.{resetState}
 use Rattle.calls.specs.Encode.{encodedFrame, encodedCodewords, encodedState}
-use Rattle.calls.specs.Decode.{decodeReply, decodedState, decodeState}
+use Rattle.calls.specs.Decode.{decodedState, decodeState}
 use Rattle.calls.specs.Inner.{Codable}
 use Rattle.calls.proofs.Answers.{codewords-length}
-use Rattle.tracking.specs.Stream.{Station, Way, written, encoderAfter, arrived, Passed, decoderAfter, Unrefused, AllUnrefused, EqualThroughout}
-use Rattle.tracking.proofs.Runs.{coding, coded, hearing, thin, same-run, states-track, codewords-short}
-use Rattle.tracking.proofs.Frames.{codable, written-is, encoder-is, finally, Arrives, arrives}
+use Rattle.tracking.specs.Stream.{Way, encoderAfter, decoderAfter, Unrefused, AllUnrefused, EqualThroughout}
+use Rattle.tracking.proofs.Runs.{coding, coded, thin, same-run, states-track, codewords-short}
+use Rattle.tracking.proofs.Frames.{codable, written-is, encoder-is, finally, arrives}
 
 -- the frame of a run of samples that encode takes: it is sound, and reads back as the run's codewords
 module _ (s : State) (LAW w : ℕ) (xs : List ℕ) (room : ℕ) (k : Codable s w (length xs) room) where

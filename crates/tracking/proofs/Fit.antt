@@ -1,8 +1,8 @@
 -- Fit inputs are not refused: demand 3's premise follows where each frame's inputs are fit by themselves, whatever the speech is.
 -- Assumes nothing.
 use mathlib.Core.List.{List, [], _∷_}
-use mathlib.Core.Path.{_≡_, refl, sym, ap, _∙_}
-use Prim.Native.Nat.{ℕ, _*_, _/_, _≤_, _<_}
+use mathlib.Core.Path.{_≡_, refl, _∙_}
+use Prim.Native.Nat.{ℕ, _/_, _<_}
 use native.Mathlib.Omega.{arith}
 use lib.ListN.{length}
 use Rattle.words.specs.Within.{Within}
@@ -10,7 +10,7 @@ use Rattle.state.specs.declared.State.{State}
 use Rattle.state.specs.Reset.{resetOf}
 use Rattle.state.specs.InRange.{InRange}
 use Rattle.state.proofs.Ranges.{reset-in-range}
-use Rattle.frame.specs.Format.{group, frameLength}
+use Rattle.frame.specs.Format.{group}
 use Rattle.frame.specs.Read.{frameWidth, frameCore, frameGroups, thinned}
 use Rattle.frame.specs.Sound.{Sound}
 use Rattle.frame.proofs.Fields.{written-fields, thinned-fields}
@@ -18,10 +18,10 @@ use Rattle.frame.proofs.Kept.{thinned-sound}
 use Rattle.calls.specs.Encode.{encodedFrame, encodedCodewords, encodedState, encodeReply}
 use Rattle.calls.specs.Decode.{decodeReply}
 use Rattle.calls.specs.Drop.{dropReply}
-use Rattle.calls.specs.Inner.{Codable, Playable, Droppable}
+use Rattle.calls.specs.Inner.{Codable, Playable}
 use Rattle.calls.proofs.Fitness.{encode-of, decode-of, drop-of}
 use Rattle.calls.proofs.Answers.{codewords-length}
-use Rattle.tracking.specs.Stream.{Station, Way, written, encoderAfter, passedOn, arrived, Passed, decoderAfter, Unrefused, AllUnrefused, EqualThroughout, Downhill, Speakable, AllSpeakable}
+use Rattle.tracking.specs.Stream.{Station, Way, encoderAfter, Passed, decoderAfter, Unrefused, AllUnrefused, EqualThroughout, Downhill, Speakable, AllSpeakable}
 use Rattle.tracking.proofs.Runs.{run-in-range, run-core}
 use Rattle.tracking.proofs.Frames.{written-is, encoder-is, passed-is, finally, arrives}
 use Rattle.tracking.proofs.Demand3.{frame-sound, frame-width, frame-core, way-tracks, stream-tracks}

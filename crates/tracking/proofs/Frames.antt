@@ -1,24 +1,22 @@
 -- One frame's way: what the encoder wrote, what each base station passes on and what arrives, as frames of codewords.
 -- Assumes nothing.
-use mathlib.Core.List.{List, [], _∷_, _++_, map}
-use mathlib.Core.Path.{_≡_, refl, sym, ap, _∙_}
-use Prim.Native.Nat.{ℕ, _+_, _-_, _*_, _/_, _≤_, _<_}
+use mathlib.Core.List.{List, [], _∷_}
+use mathlib.Core.Path.{_≡_, sym, _∙_}
+use Prim.Native.Nat.{ℕ, _/_, _<_}
 use native.Mathlib.Omega.{arith}
-use lib.Dec.{eqb}
-use lib.ListN.{length, take, drop}
+use lib.ListN.{length, drop}
 use lib.Seq.{take-at}
 use borrow.Author.Tests.{eq-eqb}
-use Rattle.words.specs.Notation.{_>>_}
 use Rattle.words.specs.Within.{Within}
 use Rattle.state.specs.declared.State.{State}
-use Rattle.frame.specs.Format.{group, mostGroups, frameLength}
+use Rattle.frame.specs.Format.{group, frameLength}
 use Rattle.frame.specs.Planes.{frameOf}
 use Rattle.frame.specs.Read.{frameWidth, frameCore, frameGroups, thinned}
 use Rattle.frame.specs.Sound.{Sound}
 use Rattle.frame.proofs.Sizes.{frame-length}
-use Rattle.frame.proofs.Fields.{written-fields, thinned-fields}
+use Rattle.frame.proofs.Fields.{thinned-fields}
 use Rattle.frame.proofs.Thinning.{thinned-same, thinned-thinned}
-use Rattle.frame.proofs.Kept.{written-sound, thinned-sound, thinned-length}
+use Rattle.frame.proofs.Kept.{thinned-sound, thinned-length}
 use Rattle.calls.specs.Encode.{encodedFrame, encodedCodewords, encodedState, encodeReply, encodeOctets, encodeState, encodeOut}
 use Rattle.calls.specs.Drop.{dropReply, dropOctets, dropOut}
 use Rattle.calls.specs.Inner.{Codable, Droppable}

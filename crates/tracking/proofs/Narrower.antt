@@ -2,12 +2,10 @@
 -- it; and every difference that a codeword allows at a state is allowed by its thinned form.
 -- Assumes nothing.
 use mathlib.Core.List.{List, map}
-use mathlib.Core.Path.{_≡_, refl, sym, ap, _∙_}
-use Prim.Native.Nat.{ℕ, _-_, _/_, _≤_, _<_}
+use mathlib.Core.Path.{_≡_, sym, ap, _∙_}
+use Prim.Native.Nat.{ℕ, _-_, _≤_, _<_}
 use native.Mathlib.Omega.{arith}
-use lib.ListN.{length}
 use Rattle.words.specs.Notation.{_>>_}
-use Rattle.words.specs.Within.{Within}
 use Rattle.quantizer.specs.Allows.{Allows}
 use Rattle.quantizer.proofs.Allowed.{allowed-thinned}
 use Rattle.state.specs.declared.State.{State}
@@ -19,7 +17,6 @@ use Rattle.frame.specs.Planes.{frameOf}
 use Rattle.frame.specs.Read.{thinned}
 use Rattle.frame.proofs.Thinning.{frame-thinned}
 use Rattle.calls.specs.Encode.{encodedFrame, encodedCodewords, encodedState}
-use Rattle.calls.specs.Inner.{Codable}
 use Rattle.tracking.proofs.Runs.{codewords-thinned, states-same}
 
 module _ (s : State) (LAW v w : ℕ) (xs : List ℕ) (range : InRange s) (pv : Pair s v) (pw : Pair s w) (narrow : v ≤ w) where

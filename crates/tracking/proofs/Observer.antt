@@ -3,13 +3,10 @@
 -- Assumes nothing.
 use mathlib.Core.List.{List, [], _∷_, map}
 use mathlib.Core.Path.{_≡_, refl, sym, ap, _∙_}
-use Prim.Native.Nat.{ℕ, _-_, _≤_, _<_}
+use Prim.Native.Nat.{ℕ, _≤_, _<_}
 use native.Mathlib.Omega.{arith}
-use Rattle.words.specs.Notation.{_>>_}
-use Rattle.words.specs.Within.{Within}
 use Rattle.lists.specs.Run.{last}
 use Rattle.state.specs.declared.State.{State}
-use Rattle.sample.specs.Pair.{Ic}
 use Rattle.sample.proofs.Cores.{core-of-thinned}
 use Rattle.sample.proofs.Tracks.{decode-by-core, decode-core}
 use Rattle.frame.specs.Read.{frameWidth, frameCore, received, thinned}

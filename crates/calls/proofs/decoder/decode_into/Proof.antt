@@ -8,7 +8,7 @@ use denote.Ref.{now}
 use Rattle.frame.specs.Format.{headerLength, group, widthOf}
 use Rattle.frame.specs.Read.{frameWidth, frameGroups}
 use Rattle.calls.proofs.Playing.{Playing, frame-pair, playing-none, playing-codeword, playing-more, playing-done}
-use Prim.Native.Nat.{_+_, _/_, _%_, _≤_, _<_}
+use Prim.Native.Nat.{_/_, _%_, _≤_, _<_}
 use lib.ListN.{length, getD, take, drop, length-drop}
 use Rattle.lists.proofs.Rest.{rest-lent}
 use Rattle.frame.specs.Format.{frameLength}
