@@ -69,10 +69,6 @@ module _ {w I : ℕ} (h : Codeword w I) where
   unfolding IM-core
   magnitude-small = ltb→lt _ _ (at-codeword (λ w I. ltb (IM-core w I) (2 ^ (w - 1))) tt h)
 
-  pub place-short : IM w I < 2 ^ w
-  unfolding IM
-  place-short = ltb→lt _ _ (at-codeword (λ w I. ltb (IM w I) (2 ^ w)) tt h)
-
   -- the halves change places, so the place of a place is the codeword
   place-back : IM w (IM w I) ≡ I
   unfolding IM

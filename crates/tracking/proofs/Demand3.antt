@@ -13,7 +13,7 @@ use Rattle.lists.specs.Run.{outs}
 use Rattle.state.specs.declared.State.{State}
 use Rattle.sample.specs.Pair.{Pair}
 use Rattle.frame.specs.Format.{group, mostGroups}
-use Rattle.frame.specs.Read.{frameWidth, frameCore, received, thinned}
+use Rattle.frame.specs.Read.{frameWidth, frameCore, frameGroups, received, thinned}
 use Rattle.frame.specs.Sound.{Sound}
 use Rattle.frame.proofs.Fields.{written-fields, thinned-fields}
 use Rattle.frame.proofs.Return.{received-return}
@@ -56,6 +56,10 @@ module _ (s : State) (LAW w : ℕ) (xs : List ℕ) (room : ℕ) (k : Codable s w
   pub frame-core : frameCore (encodedFrame s LAW w xs) ≡ s .core
   unfolding encodedFrame cws
   frame-core = written-fields small-width small-core cws .core
+
+  pub frame-groups : frameGroups (encodedFrame s LAW w xs) ≡ length xs / group
+  unfolding encodedFrame cws
+  frame-groups = written-fields small-width small-core cws .groups ∙ rw counted
 
   pub frame-received : received (encodedFrame s LAW w xs) ≡ encodedCodewords s LAW w xs
   unfolding encodedFrame encodedCodewords cws

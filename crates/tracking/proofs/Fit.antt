@@ -13,18 +13,17 @@ use Rattle.state.proofs.Ranges.{reset-in-range}
 use Rattle.frame.specs.Format.{group}
 use Rattle.frame.specs.Read.{frameWidth, frameCore, frameGroups, thinned}
 use Rattle.frame.specs.Sound.{Sound}
-use Rattle.frame.proofs.Fields.{written-fields, thinned-fields}
+use Rattle.frame.proofs.Fields.{thinned-fields}
 use Rattle.frame.proofs.Kept.{thinned-sound}
-use Rattle.calls.specs.Encode.{encodedFrame, encodedCodewords, encodedState, encodeReply}
+use Rattle.calls.specs.Encode.{encodedFrame, encodedState, encodeReply}
 use Rattle.calls.specs.Decode.{decodeReply}
 use Rattle.calls.specs.Drop.{dropReply}
 use Rattle.calls.specs.Inner.{Codable, Playable}
 use Rattle.calls.proofs.Fitness.{encode-of, decode-of, drop-of}
-use Rattle.calls.proofs.Answers.{codewords-length}
 use Rattle.tracking.specs.Stream.{Station, Way, encoderAfter, Passed, decoderAfter, Unrefused, AllUnrefused, EqualThroughout, Downhill, Speakable, AllSpeakable}
 use Rattle.tracking.proofs.Runs.{run-in-range, run-core}
 use Rattle.tracking.proofs.Frames.{written-is, encoder-is, passed-is, finally, arrives}
-use Rattle.tracking.proofs.Demand3.{frame-sound, frame-width, frame-core, way-tracks, stream-tracks}
+use Rattle.tracking.proofs.Demand3.{frame-sound, frame-width, frame-core, frame-groups, way-tracks, stream-tracks}
 
 -- no base station refuses a sound frame that comes down to it
 passes : (frame : List ℕ) (stations : List Station) → Sound frame → Downhill (frameCore frame) (frameGroups frame) (frameWidth frame) stations → Passed frame stations
@@ -49,12 +48,7 @@ module _ (s : State) (w : Way) (i : InRange s) (k : Speakable (s .core) w) where
   sound = frame-sound s (w .law) (w .width) (w .samples) (length (w .buffer)) able
 
   groups-are : frameGroups (encodedFrame s (w .law) (w .width) (w .samples)) ≡ length (w .samples) / group
-  unfolding encodedFrame
-  groups-are =
-      let cws = encodedCodewords s (w .law) (w .width) (w .samples) in
-      let w8 : w .width < 8 = omega (arith, k .pair .high) in
-      let y8 : s .core < 8 = omega (arith, i .cores .high) in
-      written-fields w8 y8 cws .groups ∙ rw (codewords-length s (w .law) (w .width) (w .samples))
+  groups-are = frame-groups s (w .law) (w .width) (w .samples) (length (w .buffer)) able
 
   width-is : frameWidth (encodedFrame s (w .law) (w .width) (w .samples)) ≡ w .width
   width-is = frame-width s (w .law) (w .width) (w .samples) (length (w .buffer)) able
