@@ -31,6 +31,15 @@ fn steady(magnitude: u8, length: u32) -> Run {
     magnitudes::held(magnitude, length)
 }
 
+/// The tables below are expanded by the same function as Table 9, so it is tested by itself.
+#[test]
+fn a_run_has_sixteen_of_each_in_turn() {
+    let expected = [[3; 16], [5; 16], [3; 16]].concat();
+    assert_eq!(together(&[in_turn(3, 5, 48)]), expected);
+    assert_eq!(together(&[in_turn(3, 5, 20)]), expected[..20]);
+    assert_eq!(together(&[steady(7, 5)]), [7; 5]);
+}
+
 fn together(runs: &[Run]) -> Vec<u8> {
     runs.iter().flat_map(Run::magnitudes).collect()
 }
