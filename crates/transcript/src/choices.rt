@@ -4,6 +4,7 @@ ghost use Prim.Native.Nat.{_≤_};
 ghost use lib.ListN.{length};
 use crate::dice::draw;
 use crate::dice::some_octet;
+use text::least;
 
 // Room for every string of octets that is handed to a call
 pub fn blank() -> [u8; 512]
@@ -16,15 +17,6 @@ pub fn full_of(octet: u8) -> [u8; 512]
     ensures { λ r. ⌜ length r ≡ 512 ⌝ }
 {
     [octet; 512]
-}
-
-pub fn at_most(n: usize, most: usize) -> usize
-    ensures { λ r. ⌜ r ≤ most ⌝ }
-{
-    if n < most {
-        return n;
-    }
-    most
 }
 
 pub fn some_law(seed: &mut u64) -> u8 {
@@ -78,9 +70,9 @@ pub fn octets_of(width: u8, samples: usize) -> usize {
 pub fn some_room(needed: usize, seed: &mut u64) -> usize
     ensures { λ r. ⌜ r ≤ 512 ⌝ }
 {
-    let room = at_most(needed, 330);
+    let room = least(needed, 330);
     match draw(seed) % 16 {
-        0 => at_most(room, 1),
+        0 => least(room, 1),
         1 | 2 => one_less(room),
         3 | 4 => room + 1,
         _ => room,

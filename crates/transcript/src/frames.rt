@@ -1,11 +1,11 @@
 // The frames that are handed to decode and drop_planes: the last one kept, whole or spoilt in one place, one that no encoder
 // made, or garbage.
 ghost use Prim.Native.Nat.{_≤_};
-use crate::choices::at_most;
 use crate::choices::fill_samples;
 use crate::choices::octets_of;
 use crate::dice::draw;
 use crate::dice::some_octet;
+use text::least;
 use text::put;
 use text::put_text;
 
@@ -17,14 +17,14 @@ pub fn some_frame(core: u8, kept: &[u8], seed: &mut u64, sent: &mut [u8]) -> usi
         0 => some_garbage(seed, sent),
         1 | 2 | 3 | 4 | 5 => made_up(core, seed, sent),
         6 | 7 | 8 | 9 | 10 | 11 => spoilt(kept, seed, sent),
-        _ => at_most(put_text(sent, 0, kept), 480),
+        _ => least(put_text(sent, 0, kept), 480),
     }
 }
 
 fn spoilt(kept: &[u8], seed: &mut u64, sent: &mut [u8]) -> usize
     ensures { λ r. ⌜ r ≤ 480 ⌝ }
 {
-    let n = at_most(put_text(sent, 0, kept), 479);
+    let n = least(put_text(sent, 0, kept), 479);
     match draw(seed) % 5 {
         0 => shorter(n, seed),
         1 => longer(n, seed, sent),
@@ -42,7 +42,7 @@ fn shorter(n: usize, seed: &mut u64) -> usize
         return 0;
     }
     if draw(seed) % 3 == 0 {
-        return at_most((draw(seed) % 2) as usize, n);
+        return least((draw(seed) % 2) as usize, n);
     }
     n - 1
 }
@@ -104,13 +104,13 @@ fn other_core(n: usize, seed: &mut u64, sent: &mut [u8]) -> usize
 fn made_up(core: u8, seed: &mut u64, sent: &mut [u8]) -> usize
     ensures { λ r. ⌜ r ≤ 480 ⌝ }
 {
-    let least = core % 8;
-    let width = at_most((least as usize) + (draw(seed) % 4) as usize, 5) as u8;
+    let y = core % 8;
+    let width = least((y as usize) + (draw(seed) % 4) as usize, 5) as u8;
     let groups = some_groups(seed);
     fill_samples(sent, seed);
-    put(sent, 0, 64 + width % 8 * 8 + least);
+    put(sent, 0, 64 + width % 8 * 8 + y);
     put(sent, 1, groups);
-    at_most(octets_of(width, 8 * (groups as usize)), 480)
+    least(octets_of(width, 8 * (groups as usize)), 480)
 }
 
 fn some_groups(seed: &mut u64) -> u8 {

@@ -1,5 +1,4 @@
 // One call of each kind: what it is asked is drawn, its line is written, and what it answered goes into the pool.
-use crate::choices::at_most;
 use crate::choices::blank;
 use crate::choices::fill_samples;
 use crate::choices::full_of;
@@ -21,6 +20,7 @@ use calls::Coded;
 use calls::Heard;
 use calls::replies::number_of;
 use state::State;
+use text::least;
 use text::put_text;
 
 // Two states that go on by the calls that are done, and the length of the last frame
@@ -101,7 +101,7 @@ fn encode_kept(
 }
 
 fn keep(frame: &mut [u8], out: &[u8], octets: usize) {
-    let n = at_most(octets, out.len());
+    let n = least(octets, out.len());
     put_text(frame, 0, &out[0..n]);
 }
 
@@ -124,7 +124,7 @@ fn decode_turn(p: Pool, seed: &mut u64, frame: &[u8]) -> Pool {
 }
 
 fn decode_some(s: State, length: usize, seed: &mut u64, frame: &[u8]) -> Heard {
-    let kept = at_most(length, frame.len());
+    let kept = least(length, frame.len());
     let mut sent = blank();
     let n = some_frame(s.core, &frame[0..kept], seed, &mut sent);
     decode_sent(s, &sent[0..n], seed)
@@ -140,7 +140,7 @@ fn decode_sent(s: State, sent: &[u8], seed: &mut u64) -> Heard {
 fn drop_turn(p: Pool, seed: &mut u64, frame: &mut [u8]) -> Pool {
     let mut next = p;
     let held = p.decoder;
-    let kept = at_most(p.length, frame.len());
+    let kept = least(p.length, frame.len());
     let mut sent = blank();
     let n = some_frame(held.core, &frame[0..kept], seed, &mut sent);
     let made = drop_sent(&sent[0..n], seed, frame);
