@@ -11,10 +11,10 @@ use crate::Coded;
 use crate::Reply;
 use crate::replies::reply_of;
 use frame::format::GROUP;
-use frame::format::HEADER_LENGTH;
 use frame::format::MOST_SAMPLES;
 use frame::format::bad_count;
 use frame::format::bad_pair;
+use frame::format::frame_length;
 use frame::whole::write_frame;
 use sample::encode_sample;
 use state::State;
@@ -31,7 +31,7 @@ pub fn encode(s: State, law: u8, width: u8, samples: &[u8], out: &mut [u8]) -> C
             state: s,
         };
     }
-    let octets = HEADER_LENGTH + (width as usize) * (samples.len() / GROUP);
+    let octets = frame_length(width, samples.len() / GROUP);
     let next = encode_into(s, law, width, samples, out);
     Coded {
         reply: Reply::Done,
@@ -55,7 +55,7 @@ fn encode_number(s: State, law: u8, width: u8, n: usize, room: usize) -> u8
     if bad_count(n) {
         return 2;
     }
-    if room < HEADER_LENGTH + (width as usize) * (n / GROUP) {
+    if room < frame_length(width, n / GROUP) {
         return 3;
     }
     0

@@ -4,7 +4,7 @@ ghost use Rattle.calls.specs.Drop.{dropNumber, Drops};
 use crate::Dropped;
 use crate::Reply;
 use crate::replies::reply_of;
-use frame::format::HEADER_LENGTH;
+use frame::format::frame_length;
 use frame::format::wrong_with;
 use frame::whole::thin_frame;
 use frame::whole::wide;
@@ -19,7 +19,7 @@ pub fn drop_planes(frame: &[u8], width: u8, out: &mut [u8]) -> Dropped
             octets: 0,
         };
     }
-    let octets = HEADER_LENGTH + (width as usize) * wide(frame[1]);
+    let octets = frame_length(width, wide(frame[1]));
     thin_frame(frame, width, out);
     Dropped {
         reply: Reply::Done,
@@ -38,7 +38,7 @@ fn drop_number(frame: &[u8], width: u8, room: usize) -> u8
     if (width < first % 8) | ((first >> 3) % 8 < width) {
         return 8;
     }
-    if room < HEADER_LENGTH + (width as usize) * wide(frame[1]) {
+    if room < frame_length(width, wide(frame[1])) {
         return 3;
     }
     0

@@ -1,7 +1,7 @@
 // The header, and what is wrong with a frame by itself (01, "The radio frame" and rows 5, 1, 2 and 6 of its replies).
 ghost use mathlib.Core.Path.{_≡_};
 ghost use Prim.Native.Nat.{_<_};
-ghost use Rattle.frame.specs.Format.{head, badPair, badGroups, badCount};
+ghost use Rattle.frame.specs.Format.{head, frameLength, badPair, badGroups, badCount};
 ghost use Rattle.frame.specs.Wrong.{wrongWith};
 
 // The limits of specs/Format.antt
@@ -20,6 +20,13 @@ pub fn header(x: u8, y: u8) -> u8
     ensures { λ r. ⌜ r ≡ head x y ⌝ }
 {
     (EDITION << 6) + x * 8 + y
+}
+
+pub fn frame_length(x: u8, g: usize) -> usize
+    requires { ⌜ (x < 8) × (g < 256) ⌝ }
+    ensures { λ r. ⌜ r ≡ frameLength x g ⌝ }
+{
+    HEADER_LENGTH + (x as usize) * g
 }
 
 pub fn bad_pair(x: u8, y: u8) -> bool
@@ -59,7 +66,7 @@ pub fn wrong_with(frame: &[u8]) -> u8
     if bad_groups(g) {
         return 2;
     }
-    if frame.len() != HEADER_LENGTH + (x as usize) * (g as usize) {
+    if frame.len() != frame_length(x, g as usize) {
         return 6;
     }
     0

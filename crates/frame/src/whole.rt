@@ -8,6 +8,7 @@ ghost use Rattle.frame.specs.Planes.{frameOf};
 ghost use Rattle.frame.specs.Read.{frameGroups, thinned};
 use crate::format::GROUP;
 use crate::format::HEADER_LENGTH;
+use crate::format::frame_length;
 use crate::format::header;
 use crate::planes::write_planes;
 
@@ -24,7 +25,7 @@ pub fn thin_frame(frame: &[u8], w: u8, out: &mut [u8])
     requires { ⌜ (w < 8) × (headerLength ≤ length (now frame)) × (frameLength w (frameGroups (now frame)) ≤ length (now frame)) × (frameLength w (frameGroups (now frame)) ≤ length (now out)) ⌝ }
     ensures { λ _. ⌜ now (out .exit) ≡ thinned w (now (frame .entry)) ++ drop (frameLength w (frameGroups (now (frame .entry)))) (now (out .entry)) ⌝ }
 {
-    let n = HEADER_LENGTH + (w as usize) * wide(frame[1]);
+    let n = frame_length(w, wide(frame[1]));
     bytes::copy(&frame[..n], out);
     let first = frame[0];
     out[0] = header(w, first % 8);

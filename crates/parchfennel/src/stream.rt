@@ -5,6 +5,7 @@ use frame::format::EDITION;
 use frame::format::HEADER_LENGTH;
 use frame::format::bad_groups;
 use frame::format::bad_pair;
+use frame::format::frame_length;
 use frame::format::wrong_with;
 use libc::STDIN_FILENO;
 use libc::STDOUT_FILENO;
@@ -83,7 +84,7 @@ fn end_of(first: u8, g: u8) -> usize {
     if bad_pair(x, first % 8) | bad_groups(g) {
         return HEADER_LENGTH;
     }
-    HEADER_LENGTH + (x as usize) * (g as usize)
+    frame_length(x, g as usize)
 }
 
 // Whether the stream ended inside the frame

@@ -2,12 +2,9 @@
 -- Assumes nothing.
 use borrow.Author.Needs.{needs}
 use mathlib.Core.Path.{_≡_, sym, _∙_}
-use Prim.Native.Nat.{_*_, _/_, _≤_}
-use native.Mathlib.Nat.{mul-le-mul}
 use native.Mathlib.Omega.{arith}
 use lib.ListN.{length}
 use denote.Ref.{now}
-use Rattle.frame.specs.Format.{group, mostGroups, frameLength}
 use Rattle.calls.specs.Encode.{encodeNumber, encodeReply, encodeOctets, encodeState, encodeOut}
 use Rattle.calls.proofs.Fitness.{encode-says}
 use Rattle.calls.proofs.Answers.{refusal, success, encode-small}
@@ -19,11 +16,6 @@ fit c = sym (c .before .encode-number .ensures) ∙ c .if1 .left
 
 unfit : (c : tie.Then1) → encodeNumber (c .before .before .before .before .args .s) (c .before .before .before .before .args .law) (c .before .before .before .before .args .width) (length (now (c .before .before .before .before .args .samples))) (length (now (c .before .before .before .before .args .out))) ≡ 0 → ⊥
 unfit c e = c .if1 .taken (c .before .encode-number .ensures ∙ e)
-
-product : (c : tie.Else1) → c .before .before .before .before .args .width * (length (now (c .before .before .before .before .args .samples)) / group) ≤ 5 * mostGroups
-product c =
-    let codable = encode-says _ (c .before .before .before .before .args .law) _ _ _ (fit c) .1 in
-    mul-le-mul (codable .pair .most) (codable .groups .high)
 
 encode-number-requires : tie.Need-encode-number-requires
 encode-number-requires c κs = search needs
@@ -42,26 +34,25 @@ returns c =
       out = refusal _ _ _ refused;
     }
 
-mul-octets : tie.Need-mul-octets
-mul-octets c = omega (arith, product c)
-
-add-octets : tie.Need-add-octets
-add-octets c = omega (arith, product c)
+frame-length-requires : tie.Need-frame-length-requires
+frame-length-requires c κs =
+    let codable = encode-says _ (c .before .before .before .before .args .law) _ _ _ (fit c) .1 in
+    (omega (arith, codable .pair .most), omega (arith, codable .groups .high))
 
 encode-into-requires : tie.Need-encode-into-requires
-encode-into-requires c κs = encode-says _ (c .before .before .before .before .before .args .law) _ _ _ (fit (c .before)) .1
+encode-into-requires c κs = encode-says _ (c .before .before .before .before .before .before .args .law) _ _ _ (fit (c .before .before)) .1
 
 same-length : tie.Need-same-length
 same-length c = search needs
 
 returns-2 : tie.Need-returns-2
-unfolding encodeReply encodeOctets encodeState encodeOut frameLength
+unfolding encodeReply encodeOctets encodeState encodeOut
 returns-2 c =
-    let n = fit (c .before .before .before .before) in
+    let n = fit (c .before .before .before .before .before) in
     let coded = c .before .before .encode-into .ensures in
     record {
       number = sym n;
-      octets = success _ _ _ n;
+      octets = c .before .before .before .before .frame-length .ensures ∙ success _ _ _ n;
       state = coded .state ∙ success _ _ _ n;
       out = coded .out ∙ success _ _ _ n;
     }
@@ -73,8 +64,7 @@ encode-spec =
     encode-number-requires
     reply-of-requires
     returns
-    mul-octets
-    add-octets
+    frame-length-requires
     encode-into-requires
     same-length
     returns-2)

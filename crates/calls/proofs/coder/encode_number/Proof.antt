@@ -2,22 +2,13 @@
 -- Assumes nothing.
 use borrow.Author.Needs.{needs}
 use mathlib.Core.Path.{sym, _∙_}
-use Prim.Native.Nat.{_*_, _/_, _≤_}
-use native.Mathlib.Nat.{mul-le-mul}
 use native.Mathlib.Omega.{arith}
 use borrow.Author.Tests.{lt-ltb, le-ltb, not-true, not-false}
-use Rattle.frame.specs.Format.{group, mostGroups, frameLength}
 use Rattle.frame.proofs.Sounds.{pair-says, count-says}
 use Rattle.calls.specs.Reply.{badLaw}
 use Rattle.calls.specs.Encode.{encodeNumber}
 use Rattle.calls.proofs.coder.encode_number.Statement.{statement}
 use Rattle.calls.proofs.coder.encode_number.Tie as tie
-
-product : (c : tie.Else4) → c .before .before .before .before .before .before .before .args .width * (c .before .before .before .before .before .before .before .args .n / group) ≤ 5 * mostGroups
-product c =
-    let pair = pair-says _ _ (sym (c .before .before .before .bad-pair .ensures) ∙ c .before .before .if3 .left) in
-    let count = count-says _ (sym (c .before .bad-count .ensures) ∙ c .if4 .left) in
-    mul-le-mul (pair .1 .high) (count .1 .high)
 
 in-range-requires : tie.Need-in-range-requires
 in-range-requires c κs = search needs
@@ -44,19 +35,19 @@ returns-4 : tie.Need-returns-4
 unfolding encodeNumber badLaw
 returns-4 c = rw (sym (c .before .before .before .before .before .before .in-range .ensures) ∙ not-false _ (c .before .before .before .before .before .if1 .left), le-ltb _ _ (c .before .before .before .before .if2 .left), sym (c .before .before .before .bad-pair .ensures) ∙ c .before .before .if3 .left, sym (c .before .bad-count .ensures) ∙ c .if4 .taken)
 
-mul-if5 : tie.Need-mul-if5
-mul-if5 c = omega (arith, product c)
-
-add-if5 : tie.Need-add-if5
-add-if5 c = omega (arith, product c)
+frame-length-requires : tie.Need-frame-length-requires
+frame-length-requires c κs =
+    let pair = pair-says _ _ (sym (c .before .before .before .bad-pair .ensures) ∙ c .before .before .if3 .left) in
+    let count = count-says _ (sym (c .before .bad-count .ensures) ∙ c .if4 .left) in
+    (omega (arith, pair .1 .high), omega (arith, count .1 .high))
 
 returns-5 : tie.Need-returns-5
-unfolding encodeNumber badLaw frameLength
-returns-5 c = rw (sym (c .before .before .before .before .before .before .before .in-range .ensures) ∙ not-false _ (c .before .before .before .before .before .before .if1 .left), le-ltb _ _ (c .before .before .before .before .before .if2 .left), sym (c .before .before .before .before .bad-pair .ensures) ∙ c .before .before .before .if3 .left, sym (c .before .before .bad-count .ensures) ∙ c .before .if4 .left, lt-ltb _ _ (c .if5 .taken))
+unfolding encodeNumber badLaw
+returns-5 c = rw (sym (c .before .before .before .before .before .before .before .before .in-range .ensures) ∙ not-false _ (c .before .before .before .before .before .before .before .if1 .left), le-ltb _ _ (c .before .before .before .before .before .before .if2 .left), sym (c .before .before .before .before .before .bad-pair .ensures) ∙ c .before .before .before .before .if3 .left, sym (c .before .before .before .bad-count .ensures) ∙ c .before .before .if4 .left, ← c .before .frame-length .ensures, lt-ltb _ _ (c .if5 .taken))
 
 returns-6 : tie.Need-returns-6
-unfolding encodeNumber badLaw frameLength
-returns-6 c = rw (sym (c .before .before .before .before .before .before .before .in-range .ensures) ∙ not-false _ (c .before .before .before .before .before .before .if1 .left), le-ltb _ _ (c .before .before .before .before .before .if2 .left), sym (c .before .before .before .before .bad-pair .ensures) ∙ c .before .before .before .if3 .left, sym (c .before .before .bad-count .ensures) ∙ c .before .if4 .left, le-ltb _ _ (c .if5 .left))
+unfolding encodeNumber badLaw
+returns-6 c = rw (sym (c .before .before .before .before .before .before .before .before .in-range .ensures) ∙ not-false _ (c .before .before .before .before .before .before .before .if1 .left), le-ltb _ _ (c .before .before .before .before .before .before .if2 .left), sym (c .before .before .before .before .before .bad-pair .ensures) ∙ c .before .before .before .before .if3 .left, sym (c .before .before .before .bad-count .ensures) ∙ c .before .before .if4 .left, ← c .before .frame-length .ensures, le-ltb _ _ (c .if5 .left))
 
 pub encode-number-spec : {M : Type 1} → statement M
 encode-number-spec =
@@ -69,7 +60,6 @@ encode-number-spec =
     returns-3
     bad-count-requires
     returns-4
-    mul-if5
-    add-if5
+    frame-length-requires
     returns-5
     returns-6)

@@ -2,15 +2,17 @@
 -- Assumes nothing.
 use borrow.Author.Needs.{needs}
 use mathlib.Core.Path.{sym, _∙_}
-use Prim.Native.Nat.{_*_, _≤_}
-use native.Mathlib.Nat.{mul-le-mul}
+use Prim.Native.Nat.{_≤_}
+use native.Mathlib.Nat.{lt-of-le-of-lt}
 use native.Mathlib.Omega.{arith}
-use borrow.Author.Tests.{lt-ltb, le-ltb, eq-eqb, ne-eqb}
+use lib.Dec.{ltb}
+use borrow.Author.Tests.{ltb-false, lt-ltb, le-ltb, eq-eqb, ne-eqb}
 use denote.Ref.{now}
-use Rattle.frame.specs.Format.{coreOf, widthOf, frameLength}
+use Rattle.frame.specs.Format.{coreOf, widthOf}
 use Rattle.frame.specs.Read.{frameCore, frameWidth, frameGroups}
 use Rattle.frame.specs.Sound.{Sound}
-use Rattle.frame.proofs.Sounds.{sound-says}
+use Rattle.frame.proofs.Fields.{width-small}
+use Rattle.frame.proofs.Sounds.{sound-says, neither-right}
 use Rattle.calls.specs.Drop.{badTarget, dropNumber}
 use Rattle.calls.proofs.dropper.drop_number.Statement.{statement}
 use Rattle.calls.proofs.dropper.drop_number.Tie as tie
@@ -19,10 +21,12 @@ use Rattle.calls.proofs.dropper.drop_number.Tie as tie
 sound : (c : tie.Else1) → Sound (now (c .before .before .before .args .frame))
 sound c = sound-says _ (sym (c .before .wrong-with .ensures) ∙ c .if1 .left)
 
-product : (c : tie.After-wide) → c .before .before .before .before .before .before .before .args .width * c .wide .result ≤ 255 * 255
-product c =
-    let w : c .before .before .before .before .before .before .before .args .width ≤ 255 = omega (arith, c .before .before .before .before .before .before .before .fits .width .fits) in
-    mul-le-mul w (c .wide .ensures .1)
+-- behind the second the width is no more than the frame's own
+narrow : (c : tie.Else2) → c .before .before .before .before .before .args .width ≤ frameWidth (now (c .before .before .before .before .before .args .frame))
+unfolding frameCore frameWidth coreOf widthOf
+narrow c =
+    let at = c .before .before .before .before .before in
+    ltb-false _ _ (neither-right (ltb (at .args .width) (frameCore (now (at .args .frame)))) _ (c .if2 .left))
 
 wrong-with-requires : tie.Need-wrong-with-requires
 wrong-with-requires c κs = search needs
@@ -44,19 +48,16 @@ shared-slice-read-wide c = omega (arith, sound (c .before .before .before) .long
 wide-requires : tie.Need-wide-requires
 wide-requires c κs = search needs
 
-mul-if3 : tie.Need-mul-if3
-mul-if3 c = omega (arith, product c)
-
-add-if3 : tie.Need-add-if3
-add-if3 c = omega (arith, product c)
+frame-length-requires : tie.Need-frame-length-requires
+frame-length-requires c κs = (lt-of-le-of-lt (narrow (c .before .before)) (width-small _), omega (arith, c .wide .ensures .1))
 
 returns-3 : tie.Need-returns-3
-unfolding dropNumber badTarget frameCore frameWidth coreOf widthOf frameLength frameGroups
-returns-3 c = rw (eq-eqb _ _ (sym (c .before .before .before .before .before .before .wrong-with .ensures) ∙ c .before .before .before .before .before .if1 .left), c .before .before .before .if2 .left, ← c .before .wide .ensures .0, lt-ltb _ _ (c .if3 .taken))
+unfolding dropNumber badTarget frameCore frameWidth coreOf widthOf frameGroups
+returns-3 c = rw (eq-eqb _ _ (sym (c .before .before .before .before .before .before .before .wrong-with .ensures) ∙ c .before .before .before .before .before .before .if1 .left), c .before .before .before .before .if2 .left, ← c .before .before .wide .ensures .0, ← c .before .frame-length .ensures, lt-ltb _ _ (c .if3 .taken))
 
 returns-4 : tie.Need-returns-4
-unfolding dropNumber badTarget frameCore frameWidth coreOf widthOf frameLength frameGroups
-returns-4 c = rw (eq-eqb _ _ (sym (c .before .before .before .before .before .before .wrong-with .ensures) ∙ c .before .before .before .before .before .if1 .left), c .before .before .before .if2 .left, ← c .before .wide .ensures .0, le-ltb _ _ (c .if3 .left))
+unfolding dropNumber badTarget frameCore frameWidth coreOf widthOf frameGroups
+returns-4 c = rw (eq-eqb _ _ (sym (c .before .before .before .before .before .before .before .wrong-with .ensures) ∙ c .before .before .before .before .before .before .if1 .left), c .before .before .before .before .if2 .left, ← c .before .before .wide .ensures .0, ← c .before .frame-length .ensures, le-ltb _ _ (c .if3 .left))
 
 pub drop-number-spec : {M : Type 1} → statement M
 drop-number-spec =
@@ -68,7 +69,6 @@ drop-number-spec =
     returns-2
     shared-slice-read-wide
     wide-requires
-    mul-if3
-    add-if3
+    frame-length-requires
     returns-3
     returns-4)

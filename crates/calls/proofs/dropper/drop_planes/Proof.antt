@@ -3,12 +3,12 @@
 use borrow.Author.Needs.{needs}
 use mathlib.Core.Path.{_≡_, sym, _∙_}
 use mathlib.Core.List.{List}
-use Prim.Native.Nat.{ℕ, _+_, _*_, _≤_}
-use native.Mathlib.Nat.{mul-le-mul, mul-le-mul-right}
+use Prim.Native.Nat.{ℕ, _≤_, _<_}
+use native.Mathlib.Nat.{mul-le-mul-right}
 use native.Mathlib.Omega.{arith}
 use lib.ListN.{length}
 use denote.Ref.{now}
-use Rattle.frame.specs.Format.{headerLength, frameLength}
+use Rattle.frame.specs.Format.{frameLength}
 use Rattle.frame.specs.Read.{frameGroups}
 use Rattle.calls.specs.Drop.{dropNumber, dropReply, dropOctets, dropOut}
 use Rattle.calls.specs.Inner.{Droppable}
@@ -23,15 +23,14 @@ fit c = sym (c .before .drop-number .ensures) ∙ c .if1 .left
 unfit : (c : tie.Then1) → dropNumber (now (c .before .before .before .before .args .frame)) (c .before .before .before .before .args .width) (length (now (c .before .before .before .before .args .out))) ≡ 0 → ⊥
 unfit c e = c .if1 .taken (c .before .drop-number .ensures ∙ e)
 
-product : (c : tie.After-wide) → c .before .before .before .before .before .before .args .width * c .wide .result ≤ 255 * 255
-product c =
-    let w : c .before .before .before .before .before .before .args .width ≤ 255 = omega (arith, c .before .before .before .before .before .before .fits .width .fits) in
-    mul-le-mul w (c .wide .ensures .1)
+-- the target width is no more than the frame's own
+narrow : {frame : List ℕ} {w room : ℕ} → Droppable frame w room → w < 8
+narrow k = omega (arith, k .target .high, k .sound .width .high)
 
 -- the count is the thinned frame's length
-counted : (c : tie.After-wide) → headerLength + c .before .before .before .before .before .before .args .width * c .wide .result ≡ frameLength (c .before .before .before .before .before .before .args .width) (frameGroups (now (c .before .before .before .before .before .before .args .frame)))
-unfolding frameLength frameGroups
-counted c = rw (c .wide .ensures .0)
+counted : (c : tie.After-frame-length) → c .frame-length .result ≡ frameLength (c .before .before .before .before .before .before .before .args .width) (frameGroups (now (c .before .before .before .before .before .before .before .args .frame)))
+unfolding frameGroups
+counted c = c .frame-length .ensures ∙ rw (c .before .wide .ensures .0)
 
 -- a thinned frame is no longer than the frame
 thinner : {frame : List ℕ} {w room : ℕ} → Droppable frame w room → frameLength w (frameGroups frame) ≤ length frame
@@ -60,25 +59,21 @@ shared-slice-read-wide c = omega (arith, drop-says _ _ _ (fit (c .before)) .soun
 wide-requires : tie.Need-wide-requires
 wide-requires c κs = search needs
 
-mul-octets : tie.Need-mul-octets
-mul-octets c = omega (arith, product c)
-
-add-octets : tie.Need-add-octets
-add-octets c = omega (arith, product c)
+frame-length-requires : tie.Need-frame-length-requires
+frame-length-requires c κs = (narrow (drop-says _ _ _ (fit (c .before .before))), omega (arith, c .wide .ensures .1))
 
 thin-frame-requires : tie.Need-thin-frame-requires
-unfolding frameLength
 thin-frame-requires c κs =
-    let k = drop-says _ _ _ (fit (c .before .before .before)) in
-    (omega (arith, k .target .high, k .sound .width .high), k .sound .long, thinner k, k .space)
+    let k = drop-says _ _ _ (fit (c .before .before .before .before)) in
+    (narrow k, k .sound .long, thinner k, k .space)
 
 same-length : tie.Need-same-length
 same-length c = search needs
 
 returns-2 : tie.Need-returns-2
-unfolding dropReply dropOctets dropOut frameLength frameGroups
+unfolding dropReply dropOctets dropOut
 returns-2 c =
-    let n = fit (c .before .before .before .before .before .before) in
+    let n = fit (c .before .before .before .before .before .before .before) in
     record {
       number = sym n;
       octets = counted (c .before .before .before .before) ∙ success _ _ 0 n;
@@ -94,8 +89,7 @@ drop-planes-spec =
     returns
     shared-slice-read-wide
     wide-requires
-    mul-octets
-    add-octets
+    frame-length-requires
     thin-frame-requires
     same-length
     returns-2)

@@ -2,22 +2,14 @@
 -- Assumes nothing.
 use borrow.Author.Needs.{needs}
 use mathlib.Core.Path.{_≡_, sym, _∙_}
-use Prim.Native.Nat.{_*_, _/_, _%_, _≤_}
-use native.Mathlib.Nat.{mul-le-mul}
 use native.Mathlib.Omega.{arith}
 use lib.ListN.{getD}
 use borrow.Author.Tests.{lt-ltb, le-ltb, eq-eqb, ne-eqb}
-use Rattle.frame.specs.Format.{edition, editionOf, widthOf, coreOf, frameLength}
+use Rattle.frame.specs.Format.{edition, editionOf, widthOf, coreOf}
 use Rattle.frame.specs.Read.{frameWidth, frameCore, frameGroups}
 use Rattle.frame.specs.Wrong.{wrongWith}
 use Rattle.frame.proofs.format.wrong_with.Statement.{statement}
 use Rattle.frame.proofs.format.wrong_with.Tie as tie
-
-product : (c : tie.Else4) → getD (c .before .before .before .before .before .before .before .before .before .args .frame .now) 0 0 / 8 % 8 * getD (c .before .before .before .before .before .before .before .before .before .args .frame .now) 1 0 ≤ 7 * 255
-product c =
-    let x : getD (c .before .before .before .before .before .before .before .before .before .args .frame .now) 0 0 / 8 % 8 ≤ 7 = omega arith in
-    let g : getD (c .before .before .before .before .before .before .before .before .before .args .frame .now) 1 0 ≤ 255 = omega (arith, c .before .before .before .before .before .shared-slice-known3 .given 1) in
-    mul-le-mul x g
 
 -- what the test of the edition decides, either way
 other-edition : (c : tie.Then2) → editionOf (getD (c .before .before .before .before .before .args .frame .now) 0 0) ≡ edition → ⊥
@@ -39,42 +31,36 @@ shared-slice-read-g : tie.Need-shared-slice-read-g
 shared-slice-read-g c = search needs
 
 returns-2 : tie.Need-returns-2
-unfolding wrongWith frameWidth frameCore frameGroups editionOf widthOf coreOf frameLength
+unfolding wrongWith frameWidth frameCore frameGroups editionOf widthOf coreOf
 returns-2 c = rw (le-ltb _ _ (c .before .before .before .if1 .left), ne-eqb _ _ (other-edition c))
 
 bad-pair-requires : tie.Need-bad-pair-requires
 bad-pair-requires c κs = search needs
 
 returns-3 : tie.Need-returns-3
-unfolding wrongWith frameWidth frameCore frameGroups editionOf widthOf coreOf frameLength
+unfolding wrongWith frameWidth frameCore frameGroups editionOf widthOf coreOf
 returns-3 c = rw (le-ltb _ _ (c .before .before .before .before .before .if1 .left), eq-eqb _ _ (our-edition (c .before .before)), sym (c .before .bad-pair .ensures) ∙ c .if3 .taken)
 
 bad-groups-requires : tie.Need-bad-groups-requires
 bad-groups-requires c κs = search needs
 
 returns-4 : tie.Need-returns-4
-unfolding wrongWith frameWidth frameCore frameGroups editionOf widthOf coreOf frameLength
+unfolding wrongWith frameWidth frameCore frameGroups editionOf widthOf coreOf
 returns-4 c = rw (le-ltb _ _ (c .before .before .before .before .before .before .before .if1 .left), eq-eqb _ _ (our-edition (c .before .before .before .before)), sym (c .before .before .before .bad-pair .ensures) ∙ c .before .before .if3 .left, sym (c .before .bad-groups .ensures) ∙ c .if4 .taken)
 
-cast-if5 : tie.Need-cast-if5
-cast-if5 c = search needs
+cast-frame-length : tie.Need-cast-frame-length
+cast-frame-length c = omega (arith, c .before .before .before .before .before .shared-slice-known3 .given 1)
 
-cast-if5-2 : tie.Need-cast-if5-2
-cast-if5-2 c = omega (arith, c .before .before .before .before .before .shared-slice-known3 .given 1)
-
-mul-if5 : tie.Need-mul-if5
-mul-if5 c = omega (arith, product c)
-
-add-if5 : tie.Need-add-if5
-add-if5 c = omega (arith, product c)
+frame-length-requires : tie.Need-frame-length-requires
+frame-length-requires c κs = (omega arith, omega (arith, c .before .before .before .before .before .shared-slice-known3 .given 1))
 
 returns-5 : tie.Need-returns-5
-unfolding wrongWith frameWidth frameCore frameGroups editionOf widthOf coreOf frameLength
-returns-5 c = rw (le-ltb _ _ (c .before .before .before .before .before .before .before .before .if1 .left), eq-eqb _ _ (our-edition (c .before .before .before .before .before)), sym (c .before .before .before .before .bad-pair .ensures) ∙ c .before .before .before .if3 .left, sym (c .before .before .bad-groups .ensures) ∙ c .before .if4 .left, ne-eqb _ _ (c .if5 .taken))
+unfolding wrongWith frameWidth frameCore frameGroups editionOf widthOf coreOf
+returns-5 c = rw (le-ltb _ _ (c .before .before .before .before .before .before .before .before .before .if1 .left), eq-eqb _ _ (our-edition (c .before .before .before .before .before .before)), sym (c .before .before .before .before .before .bad-pair .ensures) ∙ c .before .before .before .before .if3 .left, sym (c .before .before .before .bad-groups .ensures) ∙ c .before .before .if4 .left, ← c .before .frame-length .ensures, ne-eqb _ _ (c .if5 .taken))
 
 returns-6 : tie.Need-returns-6
-unfolding wrongWith frameWidth frameCore frameGroups editionOf widthOf coreOf frameLength
-returns-6 c = rw (le-ltb _ _ (c .before .before .before .before .before .before .before .before .if1 .left), eq-eqb _ _ (our-edition (c .before .before .before .before .before)), sym (c .before .before .before .before .bad-pair .ensures) ∙ c .before .before .before .if3 .left, sym (c .before .before .bad-groups .ensures) ∙ c .before .if4 .left, eq-eqb _ _ (c .if5 .left))
+unfolding wrongWith frameWidth frameCore frameGroups editionOf widthOf coreOf
+returns-6 c = rw (le-ltb _ _ (c .before .before .before .before .before .before .before .before .before .if1 .left), eq-eqb _ _ (our-edition (c .before .before .before .before .before .before)), sym (c .before .before .before .before .before .bad-pair .ensures) ∙ c .before .before .before .before .if3 .left, sym (c .before .before .before .bad-groups .ensures) ∙ c .before .before .if4 .left, ← c .before .frame-length .ensures, eq-eqb _ _ (c .if5 .left))
 
 pub wrong-with-spec : {M : Type 1} → statement M
 wrong-with-spec =
@@ -88,9 +74,7 @@ wrong-with-spec =
     returns-3
     bad-groups-requires
     returns-4
-    cast-if5
-    cast-if5-2
-    mul-if5
-    add-if5
+    cast-frame-length
+    frame-length-requires
     returns-5
     returns-6)
