@@ -8,6 +8,8 @@ use crate::Reply;
 use crate::replies::reply_of;
 use frame::format::GROUP;
 use frame::format::HEADER_LENGTH;
+use frame::format::core_of;
+use frame::format::width_of;
 use frame::format::wrong_with;
 use frame::planes::codeword_at;
 use frame::whole::wide;
@@ -56,7 +58,7 @@ fn decode_number(s: State, law: u8, frame: &[u8], room: usize) -> u8
     if wrong != 0 {
         return wrong;
     }
-    if frame[0] % 8 != s.core {
+    if core_of(frame[0]) != s.core {
         return 7;
     }
     if room < GROUP * wide(frame[1]) {
@@ -70,7 +72,7 @@ fn decode_into(s: State, law: u8, frame: &[u8], out: &mut [u8]) -> Played
     requires { ⌜ Playable s (now frame) (length (now out)) ⌝ }
     ensures { λ r. ⌜ PlaysFrame s law (now (frame .entry)) (now (out .entry)) (now (out .exit)) r ⌝ }
 {
-    let x = (frame[0] >> 3) % 8;
+    let x = width_of(frame[0]);
     let g = wide(frame[1]);
     let mut state = s;
     let mut moved = 0;

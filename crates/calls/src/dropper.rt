@@ -4,7 +4,9 @@ ghost use Rattle.calls.specs.Drop.{dropNumber, Drops};
 use crate::Dropped;
 use crate::Reply;
 use crate::replies::reply_of;
+use frame::format::core_of;
 use frame::format::frame_length;
+use frame::format::width_of;
 use frame::format::wrong_with;
 use frame::whole::thin_frame;
 use frame::whole::wide;
@@ -35,7 +37,7 @@ fn drop_number(frame: &[u8], width: u8, room: usize) -> u8
         return wrong;
     }
     let first = frame[0];
-    if (width < first % 8) | ((first >> 3) % 8 < width) {
+    if (width < core_of(first)) | (width_of(first) < width) {
         return 8;
     }
     if room < frame_length(width, wide(frame[1])) {

@@ -28,14 +28,22 @@ pub head-back : (octet : ℕ) → editionOf octet ≡ edition → head (widthOf 
 unfolding head editionOf widthOf coreOf
 head-back octet first = omega arith
 
--- three bits hold numbers below 8, whatever the frame
+-- three bits hold numbers below 8, whatever the octet
+pub width-bits : (octet : ℕ) → widthOf octet < 8
+unfolding widthOf
+width-bits octet = omega arith
+
+pub core-bits : (octet : ℕ) → coreOf octet < 8
+unfolding coreOf
+core-bits octet = omega arith
+
 pub width-small : (frame : List ℕ) → frameWidth frame < 8
-unfolding frameWidth widthOf
-width-small frame = omega arith
+unfolding frameWidth
+width-small frame = width-bits (getD frame 0 0)
 
 pub core-small : (frame : List ℕ) → frameCore frame < 8
-unfolding frameCore coreOf
-core-small frame = omega arith
+unfolding frameCore
+core-small frame = core-bits (getD frame 0 0)
 
 -- a frame of edition 01 with these fields and these planes
 pub record Fields (x y g : ℕ) (octets frame : List ℕ) : Type 0 where

@@ -1,7 +1,7 @@
 // The header, and what is wrong with a frame by itself (01, "The radio frame" and rows 5, 1, 2 and 6 of its replies).
 ghost use mathlib.Core.Path.{_≡_};
 ghost use Prim.Native.Nat.{_<_};
-ghost use Rattle.frame.specs.Format.{head, frameLength, badPair, badGroups, badCount};
+ghost use Rattle.frame.specs.Format.{head, editionOf, widthOf, coreOf, frameLength, badPair, badGroups, badCount};
 ghost use Rattle.frame.specs.Wrong.{wrongWith};
 
 // The limits of specs/Format.antt
@@ -20,6 +20,24 @@ pub fn header(x: u8, y: u8) -> u8
     ensures { λ r. ⌜ r ≡ head x y ⌝ }
 {
     (EDITION << 6) + x * 8 + y
+}
+
+pub fn edition_of(first: u8) -> u8
+    ensures { λ r. ⌜ r ≡ editionOf first ⌝ }
+{
+    first >> 6
+}
+
+pub fn width_of(first: u8) -> u8
+    ensures { λ r. ⌜ r ≡ widthOf first ⌝ }
+{
+    (first >> 3) % 8
+}
+
+pub fn core_of(first: u8) -> u8
+    ensures { λ r. ⌜ r ≡ coreOf first ⌝ }
+{
+    first % 8
 }
 
 pub fn frame_length(x: u8, g: usize) -> usize
@@ -56,11 +74,11 @@ pub fn wrong_with(frame: &[u8]) -> u8
     }
     let first = frame[0];
     let g = frame[1];
-    if first >> 6 != EDITION {
+    if edition_of(first) != EDITION {
         return 5;
     }
-    let x = (first >> 3) % 8;
-    if bad_pair(x, first % 8) {
+    let x = width_of(first);
+    if bad_pair(x, core_of(first)) {
         return 1;
     }
     if bad_groups(g) {

@@ -8,6 +8,7 @@ ghost use Rattle.frame.specs.Planes.{frameOf};
 ghost use Rattle.frame.specs.Read.{frameGroups, thinned};
 use crate::format::GROUP;
 use crate::format::HEADER_LENGTH;
+use crate::format::core_of;
 use crate::format::frame_length;
 use crate::format::header;
 use crate::planes::write_planes;
@@ -28,7 +29,7 @@ pub fn thin_frame(frame: &[u8], w: u8, out: &mut [u8])
     let n = frame_length(w, wide(frame[1]));
     bytes::copy(&frame[..n], out);
     let first = frame[0];
-    out[0] = header(w, first % 8);
+    out[0] = header(w, core_of(first));
 }
 
 // An octet as a length

@@ -13,6 +13,7 @@ use crate::words::law_at;
 use calls::decoder::decode;
 use calls::replies::number_of;
 use calls::starter::reset;
+use frame::format::core_of;
 use state::State;
 use text::within;
 
@@ -80,7 +81,7 @@ fn state_at(frame: u64, first: u8, s: State) -> State {
     if 0 < frame {
         return s;
     }
-    let started = reset(first % 8);
+    let started = reset(core_of(first));
     let state = started.state;
     state
 }

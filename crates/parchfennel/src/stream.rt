@@ -5,7 +5,10 @@ use frame::format::EDITION;
 use frame::format::HEADER_LENGTH;
 use frame::format::bad_groups;
 use frame::format::bad_pair;
+use frame::format::core_of;
+use frame::format::edition_of;
 use frame::format::frame_length;
+use frame::format::width_of;
 use frame::format::wrong_with;
 use libc::STDIN_FILENO;
 use libc::STDOUT_FILENO;
@@ -77,11 +80,11 @@ pub fn read_frame(buf: &mut [u8]) -> usize
 
 // How long the frame is that begins with these two octets
 fn end_of(first: u8, g: u8) -> usize {
-    if first >> 6 != EDITION {
+    if edition_of(first) != EDITION {
         return HEADER_LENGTH;
     }
-    let x = (first >> 3) % 8;
-    if bad_pair(x, first % 8) | bad_groups(g) {
+    let x = width_of(first);
+    if bad_pair(x, core_of(first)) | bad_groups(g) {
         return HEADER_LENGTH;
     }
     frame_length(x, g as usize)

@@ -5,7 +5,6 @@ use mathlib.Core.Path.{sym, _∙_}
 use native.Mathlib.Omega.{arith}
 use borrow.Author.Tests.{lt-ltb, le-ltb, eq-eqb, ne-eqb, not-true, not-false}
 use denote.Ref.{now}
-use Rattle.frame.specs.Format.{coreOf}
 use Rattle.frame.specs.Read.{frameCore, frameGroups}
 use Rattle.frame.specs.Sound.{Sound}
 use Rattle.frame.proofs.Sounds.{sound-says}
@@ -36,15 +35,18 @@ returns-3 : tie.Need-returns-3
 unfolding decodeNumber badLaw
 returns-3 c = rw (sym (c .before .before .before .before .in-range .ensures) ∙ not-false _ (c .before .before .before .if1 .left), le-ltb _ _ (c .before .before .if2 .left), ← c .before .wrong-with .ensures, ne-eqb _ _ (c .if3 .taken))
 
-shared-slice-read-if4 : tie.Need-shared-slice-read-if4
-shared-slice-read-if4 c = omega (arith, sound (c .before) .long)
+shared-slice-read-core-of : tie.Need-shared-slice-read-core-of
+shared-slice-read-core-of c = omega (arith, sound (c .before) .long)
+
+core-of-requires : tie.Need-core-of-requires
+core-of-requires c κs = search needs
 
 returns-4 : tie.Need-returns-4
-unfolding decodeNumber badLaw frameCore coreOf
-returns-4 c = rw (sym (c .before .before .before .before .before .before .before .in-range .ensures) ∙ not-false _ (c .before .before .before .before .before .before .if1 .left), le-ltb _ _ (c .before .before .before .before .before .if2 .left), eq-eqb _ _ (sym (c .before .before .before .before .wrong-with .ensures) ∙ c .before .before .before .if3 .left), ne-eqb _ _ (c .if4 .taken))
+unfolding decodeNumber badLaw frameCore
+returns-4 c = rw (sym (c .before .before .before .before .before .before .before .before .in-range .ensures) ∙ not-false _ (c .before .before .before .before .before .before .before .if1 .left), le-ltb _ _ (c .before .before .before .before .before .before .if2 .left), eq-eqb _ _ (sym (c .before .before .before .before .before .wrong-with .ensures) ∙ c .before .before .before .before .if3 .left), ← c .before .before .core-of .ensures, ne-eqb _ _ (c .if4 .taken))
 
 shared-slice-read-wide : tie.Need-shared-slice-read-wide
-shared-slice-read-wide c = omega (arith, sound (c .before .before .before .before) .long)
+shared-slice-read-wide c = omega (arith, sound (c .before .before .before .before .before) .long)
 
 wide-requires : tie.Need-wide-requires
 wide-requires c κs = search needs
@@ -53,12 +55,12 @@ mul-if5 : tie.Need-mul-if5
 mul-if5 c = search needs
 
 returns-5 : tie.Need-returns-5
-unfolding decodeNumber badLaw frameCore coreOf frameGroups
-returns-5 c = rw (sym (c .before .before .before .before .before .before .before .before .before .before .in-range .ensures) ∙ not-false _ (c .before .before .before .before .before .before .before .before .before .if1 .left), le-ltb _ _ (c .before .before .before .before .before .before .before .before .if2 .left), eq-eqb _ _ (sym (c .before .before .before .before .before .before .before .wrong-with .ensures) ∙ c .before .before .before .before .before .before .if3 .left), eq-eqb _ _ (c .before .before .before .if4 .left), ← c .before .wide .ensures .0, lt-ltb _ _ (c .if5 .taken))
+unfolding decodeNumber badLaw frameCore frameGroups
+returns-5 c = rw (sym (c .before .before .before .before .before .before .before .before .before .before .before .in-range .ensures) ∙ not-false _ (c .before .before .before .before .before .before .before .before .before .before .if1 .left), le-ltb _ _ (c .before .before .before .before .before .before .before .before .before .if2 .left), eq-eqb _ _ (sym (c .before .before .before .before .before .before .before .before .wrong-with .ensures) ∙ c .before .before .before .before .before .before .before .if3 .left), ← c .before .before .before .before .before .core-of .ensures, eq-eqb _ _ (c .before .before .before .if4 .left), ← c .before .wide .ensures .0, lt-ltb _ _ (c .if5 .taken))
 
 returns-6 : tie.Need-returns-6
-unfolding decodeNumber badLaw frameCore coreOf frameGroups
-returns-6 c = rw (sym (c .before .before .before .before .before .before .before .before .before .before .in-range .ensures) ∙ not-false _ (c .before .before .before .before .before .before .before .before .before .if1 .left), le-ltb _ _ (c .before .before .before .before .before .before .before .before .if2 .left), eq-eqb _ _ (sym (c .before .before .before .before .before .before .before .wrong-with .ensures) ∙ c .before .before .before .before .before .before .if3 .left), eq-eqb _ _ (c .before .before .before .if4 .left), ← c .before .wide .ensures .0, le-ltb _ _ (c .if5 .left))
+unfolding decodeNumber badLaw frameCore frameGroups
+returns-6 c = rw (sym (c .before .before .before .before .before .before .before .before .before .before .before .in-range .ensures) ∙ not-false _ (c .before .before .before .before .before .before .before .before .before .before .if1 .left), le-ltb _ _ (c .before .before .before .before .before .before .before .before .before .if2 .left), eq-eqb _ _ (sym (c .before .before .before .before .before .before .before .before .wrong-with .ensures) ∙ c .before .before .before .before .before .before .before .if3 .left), ← c .before .before .before .before .before .core-of .ensures, eq-eqb _ _ (c .before .before .before .if4 .left), ← c .before .wide .ensures .0, le-ltb _ _ (c .if5 .left))
 
 pub decode-number-spec : {M : Type 1} → statement M
 decode-number-spec =
@@ -69,7 +71,8 @@ decode-number-spec =
     returns-2
     wrong-with-requires
     returns-3
-    shared-slice-read-if4
+    shared-slice-read-core-of
+    core-of-requires
     returns-4
     shared-slice-read-wide
     wide-requires
