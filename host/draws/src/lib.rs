@@ -1,6 +1,8 @@
 //! Pseudo-random inputs for tests and comparisons. The start is fixed, so that a disagreement can be
 //! met again.
 
+pub mod states;
+
 /// SplitMix64: a counter stepped by the golden ratio and scrambled.
 pub struct Random(u64);
 

@@ -1,6 +1,7 @@
 //! What is fed to both codecs: tones, noise and random bytes for the encoders, random and held
 //! codes for the decoders, and states drawn from the table of ranges.
 
+use draws::states::any_state;
 use draws::Random;
 use second::g711::{compress, Law};
 use second::state::State;
@@ -138,28 +139,8 @@ pub fn limited_state(random: &mut Random, core: u8) -> State {
     let bound = 15_360 - a2;
     let a1 = random.within(0, 2 * bound as u64) as i32 - bound;
     State {
-        yu: random.within(544, 5_120) as u16,
-        yl: random.within(34_816, 327_680) as u32,
-        dms: random.within(0, 3_584) as u16,
-        dml: random.within(0, 14_336) as u16,
-        ap: random.within(0, 512) as u16,
         a1: a1 as u16,
         a2: a2 as u16,
-        b: std::array::from_fn(|_| any_word(random)),
-        dq: std::array::from_fn(|_| random.float_word(14)),
-        sr1: random.float_word(15),
-        sr2: random.float_word(15),
-        pk1: random.below(2) as u8,
-        pk2: random.below(2) as u8,
-        td: random.below(2) as u8,
-        core,
-    }
-}
-
-fn any_word(random: &mut Random) -> u16 {
-    match random.below(8) {
-        0 => 32_766 + random.below(8) as u16,
-        1 => (random.below(512) as u16).wrapping_sub(256),
-        _ => random.draw() as u16,
+        ..any_state(random, core)
     }
 }

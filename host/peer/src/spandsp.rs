@@ -134,9 +134,9 @@ impl Peer {
             dq: fields.dq.map(eleven_bits),
             sr1: eleven_bits(fields.sr[0]),
             sr2: eleven_bits(fields.sr[1]),
-            pk1: fields.pk[0] as u8,
-            pk2: fields.pk[1] as u8,
-            td: fields.td as u8,
+            pk1: fields.pk[0] as u16,
+            pk2: fields.pk[1] as u16,
+            td: fields.td as u16,
             core: CORE,
         }
     }
@@ -152,7 +152,7 @@ impl Peer {
         fields.b = state.b.map(|word| word as i16);
         fields.dq = state.dq.map(sign_extended);
         fields.sr = [sign_extended(state.sr1), sign_extended(state.sr2)];
-        fields.pk = [state.pk1.into(), state.pk2.into()];
+        fields.pk = [state.pk1 as i16, state.pk2 as i16];
         fields.td = state.td.into();
     }
 }

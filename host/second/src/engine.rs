@@ -47,9 +47,9 @@ pub fn advance(state: &State, core_codeword: u8) -> State {
         dq: delayed(state.dq, Float::of_signal(dq).to_word()),
         sr1: Float::of_signal(dq + se).to_word(),
         sr2: state.sr1,
-        pk1: u8::from(dq + sez < 0),
+        pk1: u16::from(dq + sez < 0),
         pk2: state.pk1,
-        td: u8::from(tone),
+        td: u16::from(tone),
         core: state.core,
     };
     if transition {

@@ -17,9 +17,9 @@ pub struct State {
     pub dq: [u16; 6],
     pub sr1: u16,
     pub sr2: u16,
-    pub pk1: u8,
-    pub pk2: u8,
-    pub td: u8,
+    pub pk1: u16,
+    pub pk2: u16,
+    pub td: u16,
     pub core: u8,
 }
 
@@ -54,11 +54,10 @@ impl State {
     pub fn numbers(&self) -> Vec<u32> {
         let mut numbers = vec![u32::from(self.yu), self.yl];
         let words = [self.dms, self.dml, self.ap, self.a1, self.a2];
-        let signals = [self.sr1, self.sr2];
-        let all = words.iter().chain(&self.b).chain(&self.dq).chain(&signals);
+        let last = [self.sr1, self.sr2, self.pk1, self.pk2, self.td];
+        let all = words.iter().chain(&self.b).chain(&self.dq).chain(&last);
         numbers.extend(all.map(|&word| u32::from(word)));
-        let last = [self.pk1, self.pk2, self.td, self.core];
-        numbers.extend(last.map(u32::from));
+        numbers.push(u32::from(self.core));
         numbers
     }
 

@@ -1,13 +1,12 @@
 //! Which differences a codeword allows: each difference one codeword, the thinned codeword at
 //! least as much, and the places where what is allowed is not what one would expect.
 
-mod support;
-
+use draws::states::any_state;
+use draws::Random;
 use second::engine::estimate;
 use second::quantizer::{quantize, reconstruct, thinned};
 use second::sample::allows;
 use second::state::State;
-use support::{any_state, Random};
 
 /// A state whose scale factor Y is the given one: both scale factors are set to it.
 fn at_scale(y: i32, core: u8) -> State {

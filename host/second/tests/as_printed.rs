@@ -2,13 +2,12 @@
 //! Streams from reset never come near most states of the table of ranges; this comparison draws
 //! its states from the whole table. Masks that the scan lost are those of G.726.
 
-mod support;
-
+use draws::states::{any_state, PAIRS};
+use draws::Random;
 use second::engine::{advance, estimate};
 use second::g711::{compress, expand, Law};
 use second::quantizer;
 use second::state::State;
-use support::{any_state, Random, PAIRS};
 
 /// The exponent tables of FLOATA, FLOATB and FMULT: a chain of comparisons.
 fn exponent(mag: u32) -> u32 {
@@ -350,9 +349,9 @@ fn next_state(s: &State, ic: u32) -> State {
         }),
         sr1: floatb(sum_with(dq, se)) as u16,
         sr2: s.sr1,
-        pk1: pk0 as u8,
+        pk1: pk0 as u16,
         pk2: s.pk1,
-        td: trigb(tdp) as u8,
+        td: trigb(tdp),
         core: s.core,
     }
 }

@@ -1,10 +1,9 @@
 //! The worked frames, and packing, unpacking and dropping over every pair and many lengths.
 
-mod support;
-
+use draws::states::PAIRS;
+use draws::Random;
 use second::calls::drop_planes;
 use second::frame::{pack, read_header, unpack, Header};
-use support::{Random, PAIRS};
 
 fn header(width: u8, core: u8, groups: usize) -> Header {
     Header {

@@ -4,6 +4,8 @@
 
 mod support;
 
+use draws::states::{any_state, PAIRS};
+use draws::Random;
 use second::engine::{advance, estimate, Estimate};
 use second::g711::{compress, expand, Law};
 use second::logarithm::normalized_log;
@@ -11,7 +13,7 @@ use second::quantizer::reconstruct;
 use second::sample::{decode, encode};
 use second::state::State;
 use std::cmp::Ordering;
-use support::{any_state, printed, Random, PAIRS};
+use support::printed;
 
 fn dln_word(difference: i32, y: i32) -> i32 {
     normalized_log(difference, y) & 4_095

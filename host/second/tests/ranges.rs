@@ -1,13 +1,12 @@
 //! The table of ranges row by row, the law that a step from a state in range ends in range, and
 //! the bounds that the signed engine rests on.
 
-mod support;
-
+use draws::states::any_state;
+use draws::Random;
 use second::calls;
 use second::engine::{advance, estimate};
 use second::quantizer::reconstruct;
 use second::state::State;
-use support::{any_state, Random};
 
 fn reset() -> State {
     State::reset(3)
@@ -84,9 +83,9 @@ fn rows_of_floating_point_words() {
 
 #[test]
 fn rows_of_bits_and_of_the_core() {
-    check(|s, v| s.pk1 = v, &[0, 1], &[2, 128, 255]);
-    check(|s, v| s.pk2 = v, &[0, 1], &[2, 128, 255]);
-    check(|s, v| s.td = v, &[0, 1], &[2, 128, 255]);
+    check(|s, v| s.pk1 = v, &[0, 1], &[2, 128, 255, 256, 65_535]);
+    check(|s, v| s.pk2 = v, &[0, 1], &[2, 128, 255, 256, 65_535]);
+    check(|s, v| s.td = v, &[0, 1], &[2, 128, 255, 256, 65_535]);
     check(|s, v| s.core = v, &[2, 3, 4], &[0, 1, 5, 7, 255]);
 }
 

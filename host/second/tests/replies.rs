@@ -1,11 +1,10 @@
 //! Every reply of every call, the order of the rows where two or more apply, the limit cases,
 //! and that a refused call writes nothing and keeps the state.
 
-mod support;
-
+use draws::states::PAIRS;
+use draws::Random;
 use second::calls::{decode, drop_planes, encode, reset};
 use second::state::State;
-use support::{Random, PAIRS};
 
 const FILL: u8 = 0xA5;
 
@@ -427,7 +426,7 @@ fn a_state_out_of_range_in_any_field_is_refused() {
         |s| s.sr1 = 2_080,
         |s| s.sr2 = 31,
         |s| s.pk1 = 2,
-        |s| s.pk2 = 255,
+        |s| s.pk2 = 256,
         |s| s.td = 2,
         |s| s.core = 5,
         |s| s.core = 1,

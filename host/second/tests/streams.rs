@@ -1,14 +1,13 @@
 //! Whole streams: a decoder's state stays the encoder's while planes are dropped at random and
 //! the width changes from frame to frame, and a held codeword takes a coefficient past 32,767.
 
-mod support;
-
+use draws::states::PAIRS;
+use draws::Random;
 use second::calls::{self, decode, drop_planes, encode};
 use second::frame::{read_header, unpack};
 use second::g711::{compress, Law};
 use second::sample;
 use second::state::State;
-use support::{Random, PAIRS};
 
 /// Noise around a level, both drawn anew for every frame.
 fn pcm(random: &mut Random, law: u8, count: usize) -> Vec<u8> {
