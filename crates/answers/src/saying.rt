@@ -1,0 +1,77 @@
+// What is said on standard output, as it comes: a line, the fields of its answer each behind a space, what is wrong.
+// Assumes nothing.
+ghost use Prim.Native.Nat.{_≤_, _<_};
+use calls::Reply;
+use calls::replies::number_of;
+use libc::STDOUT_FILENO;
+use state::State;
+use text::put_octets;
+use text::variables::put_state;
+
+// How many octets are written as digits at a time
+const PIECE: usize = 2048;
+
+pub fn say(words: &[u8]) {
+    io::write_all(STDOUT_FILENO, words);
+}
+
+pub fn say_number(n: u64) {
+    say(b" ");
+    io::print_decimal(STDOUT_FILENO, n);
+}
+
+pub fn say_reply(reply: Reply, octets: usize) {
+    say_number(number_of(reply) as u64);
+    say_number(octets as u64);
+}
+
+pub fn say_state(s: State) {
+    let mut line = io::buffer();
+    let n = put_state(&mut line, 0, b' ', b',', s);
+    say(&line[..n]);
+}
+
+// All octets, or - where there are none
+pub fn say_octets(octets: &[u8]) {
+    if octets.len() == 0 {
+        say(b" -");
+        return;
+    }
+    say(b" ");
+    let mut from = 0;
+    while from < octets.len() {
+        let to = end_of_piece(from, octets.len());
+        say_piece(&octets[from..to]);
+        from = to;
+    }
+}
+
+fn end_of_piece(from: usize, length: usize) -> usize
+    requires { ⌜ from < length ⌝ }
+    ensures { λ r. ⌜ (from < r) × (r ≤ length) ⌝ }
+{
+    if length - from < PIECE {
+        return length;
+    }
+    from + PIECE
+}
+
+fn say_piece(octets: &[u8]) {
+    let mut digits = io::buffer();
+    let n = put_octets(&mut digits, 0, octets);
+    say(&digits[..n]);
+}
+
+// A comment, in place of a line
+pub fn say_wrong(line: u64, what: &[u8]) {
+    say(b"# line");
+    say_number(line);
+    say(b": ");
+    say(what);
+}
+
+// The same, with the field that is wrong
+pub fn say_wrong_field(line: u64, what: &[u8], field: u64) {
+    say_wrong(line, what);
+    say_number(field);
+}

@@ -1,0 +1,84 @@
+//! The second codec's answers: to one call, and to a text of lines as the proved program gives them.
+
+use crate::call::Call;
+use crate::fields::{write_octets, write_state};
+use second::calls;
+use second::g711::{expand, one_down, one_up};
+
+/// The longest line that is read, in characters.
+pub const LONGEST: usize = 131_072;
+
+/// Every line with its answer. A comment and an empty line are passed on; for a line that is no call a comment stands.
+pub fn answer(asked: &str) -> String {
+    if asked.is_empty() {
+        return String::new();
+    }
+    let whole = asked.strip_suffix('\n').unwrap_or(asked);
+    let lines = whole.split('\n').zip(1..);
+    lines
+        .map(|(line, number)| answered_line(line, number) + "\n")
+        .collect()
+}
+
+fn answered_line(line: &str, number: usize) -> String {
+    if line.len() > LONGEST {
+        return format!("# line {number}: too long");
+    }
+    if line.is_empty() || line.starts_with('#') {
+        return line.to_string();
+    }
+    match Call::read(line) {
+        Ok(call) => format!("{line} = {}", answer_to(&call)),
+        Err(why) => format!("# line {number}: {why}"),
+    }
+}
+
+/// What stands behind the equals sign.
+pub fn answer_to(call: &Call) -> String {
+    match call {
+        Call::Reset(core) => {
+            let a = calls::reset(*core);
+            format!("{} {} {}", a.number, a.octets, write_state(&a.state))
+        }
+        Call::Encode(c) => {
+            let mut out = c.out.clone();
+            let a = calls::encode(c.state, c.law, c.width, &c.samples, &mut out);
+            let (out, state) = (write_octets(&out), write_state(&a.state));
+            format!("{} {} {out} {state}", a.number, a.octets)
+        }
+        Call::Decode(c) => {
+            let mut out = c.out.clone();
+            let a = calls::decode(c.state, c.law, &c.frame, &mut out);
+            let (out, state) = (write_octets(&out), write_state(&a.state));
+            format!("{} {} {} {out} {state}", a.number, a.octets, a.moved)
+        }
+        Call::Drop(c) => {
+            let mut out = c.out.clone();
+            let a = calls::drop_planes(&c.frame, c.width, &mut out);
+            format!("{} {} {}", a.number, a.octets, write_octets(&out))
+        }
+        // EXPAND's level has 14 bits in two's complement.
+        Call::Level(law, octet) => {
+            let level = expand(*law, *octet).rem_euclid(16_384);
+            let (above, below) = (one_up(*law, *octet), one_down(*law, *octet));
+            format!("{level} {above} {below}")
+        }
+    }
+}
+
+#[cfg(test)]
+mod tests {
+    use super::*;
+
+    #[test]
+    fn lines_in_order_with_what_is_wrong() {
+        let long = format!("# {}", "x".repeat(LONGEST - 2));
+        let asked = format!("# a\n\nreset 9\nreset\n{long}\n{long}x\nlevel 0 128");
+        let due = format!(
+            "# a\n\nreset 9 = 1 0 {}\n# line 4: cannot be read: field 2\n{long}\n# line 6: too long\nlevel 0 128 = 8031 128 129\n",
+            "544,34816,0,0,0,0,0,0,0,0,0,0,0,32,32,32,32,32,32,32,32,0,0,0,2"
+        );
+        assert!(answer(&asked) == due);
+        assert_eq!(answer(""), "");
+    }
+}

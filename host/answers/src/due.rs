@@ -1,0 +1,161 @@
+//! What 01 says of a call's answer, whoever gives it. A refusal it says whole; a success in part.
+
+use crate::call::Call;
+use crate::fields::{octets, state, write_octets, write_state};
+use second::state::State;
+
+#[derive(Clone, Debug)]
+pub enum Due {
+    /// Nothing but what holds of every answer.
+    Open,
+    Refused(u8),
+    /// Done, with so many octets.
+    Done(usize),
+    /// Done, and the buffer begins with these octets.
+    Out(Vec<u8>),
+    /// Done, and the frame's first codeword, of five bits, is this.
+    First(u8),
+    /// EXPAND's word, the octet above and the octet below, where 01 has them.
+    Level(Option<u16>, Option<u8>, Option<u8>),
+}
+
+/// An answer taken apart; what a call's answer does not have is 0, empty or none.
+#[derive(Clone, Debug, Default, PartialEq, Eq)]
+pub struct Parts {
+    pub number: u8,
+    pub octets: usize,
+    pub moved: usize,
+    pub out: Vec<u8>,
+    pub state: Option<State>,
+}
+
+/// What stands behind the equals sign of one of the four public calls.
+pub fn parts(call: &Call, answer: &str) -> Result<Parts, String> {
+    let told = || format!("cannot be read: {answer}");
+    let fields: Vec<&str> = answer.split(' ').collect();
+    let read = |out: &str, kept: Option<&str>, moved: &str| -> Option<Parts> {
+        Some(Parts {
+            number: fields.first()?.parse().ok()?,
+            octets: fields.get(1)?.parse().ok()?,
+            moved: moved.parse().ok()?,
+            out: octets(out)?,
+            state: match kept {
+                Some(text) => Some(state(text)?),
+                None => None,
+            },
+        })
+    };
+    match (call, fields.as_slice()) {
+        (Call::Reset(_), [_, _, state]) => read("-", Some(state), "0"),
+        (Call::Encode(_), [_, _, out, state]) => read(out, Some(state), "0"),
+        (Call::Decode(_), [_, _, moved, out, state]) => read(out, Some(state), moved),
+        (Call::Drop(_), [_, _, out]) => read(out, None, "0"),
+        _ => None,
+    }
+    .ok_or_else(told)
+}
+
+impl Due {
+    /// Whether the answer is as it has to be, and else what is wrong with it.
+    pub fn hold(&self, call: &Call, answer: &str) -> Result<(), String> {
+        if let Call::Level(..) = call {
+            return self.hold_level(answer);
+        }
+        let found = parts(call, answer)?;
+        hold_always(call, &found)?;
+        match self {
+            Due::Refused(number) => same("number", &found.number, number),
+            Due::Done(octets) => {
+                same("number", &found.number, &0)?;
+                same("octets", &found.octets, octets)
+            }
+            Due::Out(octets) => {
+                same("number", &found.number, &0)?;
+                same("octets", &&found.out[..found.octets], &octets.as_slice())
+            }
+            Due::First(codeword) => {
+                same("number", &found.number, &0)?;
+                same("first codeword", &first_codeword(&found.out), codeword)
+            }
+            Due::Open | Due::Level(..) => Ok(()),
+        }
+    }
+
+    fn hold_level(&self, answer: &str) -> Result<(), String> {
+        let Due::Level(level, above, below) = self else {
+            return Ok(());
+        };
+        let due = [*level, above.map(u16::from), below.map(u16::from)];
+        for (found, due) in answer.split(' ').zip(due) {
+            let due = due.map_or(found.to_string(), |number| number.to_string());
+            same("level", &found, &due.as_str())?;
+        }
+        Ok(())
+    }
+}
+
+/// Of a frame of one group at width 5: the first sample has the highest bit of each plane.
+fn first_codeword(frame: &[u8]) -> u8 {
+    frame[2..7]
+        .iter()
+        .fold(0, |bits, octet| 2 * bits + octet / 128)
+}
+
+fn same<T: PartialEq + std::fmt::Debug>(what: &str, found: &T, due: &T) -> Result<(), String> {
+    if found == due {
+        return Ok(());
+    }
+    Err(format!("{what} {found:?}, where {due:?} is due"))
+}
+
+/// What 01 says of every answer: a refusal reports nothing, writes nothing and keeps the state; a success writes as many
+/// octets as the call's own form says, and the buffer beyond them stays.
+fn hold_always(call: &Call, found: &Parts) -> Result<(), String> {
+    let (out, kept) = handed_in(call);
+    let written = if found.number == 0 {
+        due_octets(call)
+    } else {
+        0
+    };
+    same("octets", &found.octets, &written)?;
+    same("length of out", &found.out.len(), &out.len())?;
+    at_most("octets", written, out.len())?;
+    let beyond = |octets: &[u8]| write_octets(&octets[written..]);
+    same("out beyond the octets", &beyond(&found.out), &beyond(out))?;
+    if found.number == 0 {
+        return at_most("moved", found.moved, written);
+    }
+    same("moved", &found.moved, &0)?;
+    let texts = [found.state, kept].map(|state| state.map(|s| write_state(&s)));
+    match kept {
+        Some(_) => same("state", &texts[0], &texts[1]),
+        None => Ok(()),
+    }
+}
+
+fn at_most(what: &str, found: usize, most: usize) -> Result<(), String> {
+    if found <= most {
+        return Ok(());
+    }
+    Err(format!("{what} {found}, where {most} is the most"))
+}
+
+/// The buffer and the state that the call is given.
+fn handed_in(call: &Call) -> (&[u8], Option<State>) {
+    match call {
+        Call::Encode(c) => (&c.out, Some(c.state)),
+        Call::Decode(c) => (&c.out, Some(c.state)),
+        Call::Drop(c) => (&c.out, None),
+        Call::Reset(_) | Call::Level(..) => (&[], None),
+    }
+}
+
+/// How many octets a success writes, by the lengths of what is handed in.
+fn due_octets(call: &Call) -> usize {
+    match call {
+        Call::Encode(c) => 2 + usize::from(c.width) * (c.samples.len() / 8),
+        Call::Decode(c) => 8 * usize::from(c.frame[1]),
+        Call::Drop(c) => 2 + usize::from(c.width) * usize::from(c.frame[1]),
+        Call::Reset(_) | Call::Level(..) => 0,
+    }
+}

@@ -1,0 +1,69 @@
+//! A refused call may be made again as if it had not been made: the sound call, the call with a fault, the sound call again.
+//! The program keeps its memory from line to line, so the third answer tells what the refusal left there.
+
+use super::parts::{decode, drop, encode, octets, room, samples, unfit};
+use crate::call::Call;
+use crate::due::Due;
+use crate::page::Page;
+use second::state::State;
+
+pub fn again(page: &mut Page) {
+    page.group(
+        "again",
+        "a sound call, a refused one, and the sound one again",
+    );
+    let s = State::reset(3);
+    let coded =
+        |state, law, width, count, length| encode(state, law, width, samples(count), room(length));
+    let sound = coded(s, 0, 5, 16, 12);
+    for (number, refused) in [
+        (4, coded(unfit(3), 0, 5, 16, 12)),
+        (9, coded(s, 2, 5, 16, 12)),
+        (1, coded(s, 0, 6, 16, 12)),
+        (2, coded(s, 0, 5, 20, 12)),
+        (3, coded(s, 0, 5, 16, 11)),
+    ] {
+        three(page, Due::Done(12), &sound, number, refused);
+    }
+    decoded_again(page, s);
+    dropped_again(page);
+}
+
+fn decoded_again(page: &mut Page, s: State) {
+    let heard = |state, law, frame, length| decode(state, law, frame, room(length));
+    let frame = || octets(0x63, 2, 10);
+    let sound = heard(s, 1, frame(), 16);
+    for (number, refused) in [
+        (4, heard(unfit(3), 1, frame(), 16)),
+        (9, heard(s, 2, frame(), 16)),
+        (5, heard(s, 1, octets(0x23, 2, 10), 16)),
+        (1, heard(s, 1, octets(0x61, 2, 10), 16)),
+        (2, heard(s, 1, octets(0x63, 0, 10), 16)),
+        (6, heard(s, 1, octets(0x63, 2, 11), 16)),
+        (7, heard(s, 1, octets(0x62, 2, 10), 16)),
+        (3, heard(s, 1, frame(), 15)),
+    ] {
+        three(page, Due::Done(16), &sound, number, refused);
+    }
+}
+
+fn dropped_again(page: &mut Page) {
+    let frame = || octets(0x6A, 2, 12);
+    let sound = drop(frame(), 3, room(8));
+    for (number, refused) in [
+        (5, drop(octets(0x2A, 2, 12), 3, room(8))),
+        (1, drop(octets(0x69, 2, 12), 3, room(8))),
+        (2, drop(octets(0x6A, 0, 12), 3, room(8))),
+        (6, drop(octets(0x6A, 2, 11), 3, room(8))),
+        (8, drop(frame(), 1, room(8))),
+        (3, drop(frame(), 3, room(7))),
+    ] {
+        three(page, Due::Done(8), &sound, number, refused);
+    }
+}
+
+fn three(page: &mut Page, done: Due, sound: &Call, number: u8, refused: Call) {
+    page.due(done.clone(), sound.clone());
+    page.due(Due::Refused(number), refused);
+    page.due(done, sound.clone());
+}

@@ -1,0 +1,66 @@
+//! The groups of calls that are stored, in their order (docs/EVIDENCE.md lists them). What is drawn is drawn from a seed that
+//! the group's first line gives.
+
+use crate::page::Page;
+
+mod again;
+mod buffers;
+mod drawn;
+mod limits;
+mod lines;
+mod order;
+mod output_path;
+mod parts;
+mod poles;
+mod products;
+mod quantizing;
+mod ranges;
+mod replies;
+mod speed;
+mod states;
+mod streams;
+mod transitions;
+mod widths;
+mod worked;
+mod zeros;
+
+pub fn all() -> Page {
+    let mut page = Page::default();
+    for group in [
+        worked::frames,
+        worked::first_bytes,
+        worked::levels,
+        limits::limits,
+        replies::replies,
+        order::order,
+        buffers::buffers,
+        again::again,
+        ranges::ranges,
+        widths::copies,
+        widths::dropped,
+        widths::changed,
+        widths::halves,
+        streams::streams,
+        streams::jumps,
+        streams::held,
+        quantizing::thresholds,
+        quantizing::logarithms,
+        quantizing::codewords,
+        speed::mixing,
+        speed::scales,
+        speed::averages,
+        products::coefficients,
+        products::sums,
+        zeros::zeros,
+        poles::poles,
+        poles::tones,
+        transitions::transitions,
+        output_path::decisions,
+        output_path::synchronous,
+        drawn::drawn,
+        lines::lines,
+    ] {
+        group(&mut page);
+    }
+    page
+}

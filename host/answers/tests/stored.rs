@@ -1,0 +1,188 @@
+//! The stored lines, judged: by 01 where it says what is due, and by each other where a law ties them. The answers are read
+//! from the file to which the proved program is held.
+
+use answers::call::Call;
+use answers::due::{parts, Parts};
+use answers::groups;
+use answers::page::{Item, Page};
+use answers::stored::{read, ANSWERED};
+use std::collections::BTreeSet;
+
+struct Stored {
+    page: Page,
+    lines: Vec<String>,
+}
+
+fn stored() -> Stored {
+    let text = read(ANSWERED).expect("the stored answers");
+    Stored {
+        page: groups::all(),
+        lines: text.lines().map(str::to_string).collect(),
+    }
+}
+
+impl Stored {
+    fn answer(&self, place: usize) -> &str {
+        let line = &self.lines[place];
+        line.split_once(" = ").map_or("", |(_, answer)| answer)
+    }
+
+    /// The group's calls with their answers.
+    fn group(&self, name: &str) -> Vec<(&Call, Parts)> {
+        let call = |place: usize| match &self.page.items[place] {
+            Item::Call(call, _) => Some((call, parts(call, self.answer(place)).unwrap())),
+            _ => None,
+        };
+        self.page.places(name).filter_map(call).collect()
+    }
+}
+
+#[test]
+fn what_01_says_is_stored() {
+    let stored = stored();
+    assert_eq!(stored.page.items.len(), stored.lines.len());
+    for (place, item) in stored.page.items.iter().enumerate() {
+        let line = &stored.lines[place];
+        match item {
+            Item::Call(call, due) => {
+                let (asked, answer) = line.split_once(" = ").expect("an answer");
+                assert_eq!(asked, call.to_string());
+                let judged = due.hold(call, answer);
+                assert!(judged.is_ok(), "line {}: {judged:?}: {line}", place + 1);
+            }
+            Item::Other(_, due) => {
+                let numbered = format!("# line {}:", place + 1);
+                assert_eq!(*line, due.replace("# line N:", &numbered));
+            }
+            Item::Group(..) | Item::Note(_) => assert_eq!(*line, item.line()),
+        }
+    }
+}
+
+/// 01: the greatest level of A-law is 8,064, that of mu-law 8,031.
+#[test]
+fn the_greatest_levels() {
+    let stored = stored();
+    for (law, due) in [("0", 8_031), ("1", 8_064)] {
+        let levels = stored.lines.iter().filter_map(|line| {
+            let fields: Vec<&str> = line.split(' ').collect();
+            let level: i32 = fields.get(4)?.parse().ok()?;
+            (fields[0] == "level" && fields[1] == law).then_some(level)
+        });
+        let sizes: Vec<i32> = levels.map(|level| level.min(16_384 - level)).collect();
+        assert_eq!((sizes.len(), sizes.iter().max()), (256, Some(&due)));
+    }
+}
+
+/// Demand 3, on what is stored: after every frame the decoder's state is the encoder's.
+#[test]
+fn both_ends_have_one_state() {
+    let stored = stored();
+    for group in ["streams", "jumps"] {
+        for three in stored.group(group).chunks(3) {
+            let [(_, sent), (_, thin), (_, heard)] = three else {
+                panic!("a frame is three lines");
+            };
+            assert_eq!([sent.number, thin.number, heard.number], [0; 3]);
+            assert_eq!(sent.state, heard.state);
+        }
+    }
+    for two in stored.group("changed").chunks(2) {
+        assert_eq!((two[0].1.state, two[0].1.number), (two[1].1.state, 0));
+    }
+}
+
+/// A state goes on from frame to frame, and does not begin anew where the width changes.
+#[test]
+fn a_stream_goes_on() {
+    for four in stored().group("changed").chunks(4) {
+        let Call::Encode(second) = four[2].0 else {
+            panic!("the second frame is encoded");
+        };
+        assert_eq!(Some(second.state), four[0].1.state);
+        assert_ne!(four[2].1.state, four[0].1.state);
+    }
+}
+
+#[test]
+fn a_dropped_frame_is_the_narrower_encoder_s() {
+    for three in stored().group("dropped").chunks(3) {
+        let [(_, whole), (_, narrow), (_, dropped)] = three else {
+            panic!("three lines for a pair");
+        };
+        assert_eq!((&dropped.out, dropped.octets), (&narrow.out, narrow.octets));
+        assert_eq!(whole.state, narrow.state);
+    }
+}
+
+/// Planes of 40 octets, and of 20 and 20.
+#[test]
+fn two_halves_are_one_whole() {
+    for three in stored().group("halves").chunks(3) {
+        let planes = |at: usize, g: usize| three[at].1.out[2..].chunks(g).map(<[u8]>::to_vec);
+        let joined: Vec<Vec<u8>> = planes(1, 20)
+            .zip(planes(2, 20))
+            .map(|(a, b)| [a, b].concat())
+            .collect();
+        assert_eq!(planes(0, 40).collect::<Vec<_>>(), joined);
+        assert_eq!(three[0].1.state, three[2].1.state);
+    }
+}
+
+#[test]
+fn a_refusal_leaves_nothing_behind() {
+    for three in stored().group("again").chunks(3) {
+        assert_eq!(three[0], three[2]);
+        assert_ne!(three[1].1.number, 0);
+    }
+}
+
+/// The coefficients pass 32,767 and are not held there.
+#[test]
+fn a_held_codeword_takes_b_past_32767() {
+    for frames in stored().group("held").chunks(5) {
+        let last = frames[4].1.state.expect("a state");
+        assert!(last.b.iter().all(|&word| word >= 32_768), "{last:?}");
+    }
+}
+
+/// The first sample is a transition and sets AP to 256; seven more take it no further than 347. Without it AP stays above 500.
+#[test]
+fn a_transition_at_yl_262144() {
+    let stored = stored();
+    let calls = stored.group("transitions");
+    let (_, answer) = calls.last().expect("a call");
+    assert_eq!(answer.state.map(|s| s.ap), Some(347));
+}
+
+/// What the calls that were done stand for: both laws with all nine pairs, every thinning, tones and moved octets.
+#[test]
+fn the_calls_are_many_sided() {
+    let stored = stored();
+    let calls = stored
+        .page
+        .items
+        .iter()
+        .enumerate()
+        .filter_map(|(place, item)| match item {
+            Item::Call(Call::Level(..), _) => None,
+            Item::Call(call, _) => Some((call, parts(call, stored.answer(place)).unwrap())),
+            _ => None,
+        });
+    let done: Vec<_> = calls.filter(|(_, answer)| answer.number == 0).collect();
+    let (mut coded, mut heard, mut thinned) = (BTreeSet::new(), BTreeSet::new(), BTreeSet::new());
+    for (call, _) in &done {
+        match call {
+            Call::Encode(c) => drop(coded.insert((c.law, c.width, c.state.core))),
+            Call::Decode(c) => drop(heard.insert((c.law, c.frame[0]))),
+            Call::Drop(c) => drop(thinned.insert((c.frame[0], c.width))),
+            _ => {}
+        };
+    }
+    assert_eq!((coded.len(), heard.len(), thinned.len()), (18, 18, 19));
+    assert!(done.iter().any(|(_, answer)| answer.moved > 0));
+    let tones = done
+        .iter()
+        .filter(|(_, a)| a.state.is_some_and(|s| s.td == 1));
+    assert!(tones.count() > 0);
+}
