@@ -20,7 +20,7 @@ pub fn refuse(frame: u64, octet: u64, number: u8) {
     io::write_all(STDERR_FILENO, &line[..n]);
 }
 
-fn put_frame(line: &mut [u8], frame: u64, octet: u64) -> usize
+fn put_frame(line: &mut [u8; 4096], frame: u64, octet: u64) -> usize
     ensures { λ r. ⌜ Counts r (now (line .exit)) ⌝ }
 {
     let named = put_text(line, 0, b"parchfennel: frame ");
@@ -30,7 +30,7 @@ fn put_frame(line: &mut [u8], frame: u64, octet: u64) -> usize
 }
 
 // The words of the table of replies
-fn put_reason(line: &mut [u8], at: usize, number: u8) -> usize
+fn put_reason(line: &mut [u8; 4096], at: usize, number: u8) -> usize
     ensures { λ r. ⌜ Counts r (now (line .exit)) ⌝ }
 {
     match number {
@@ -89,7 +89,7 @@ fn say_word(verbose: bool, i: usize, what: &[u8]) {
 }
 
 // At most 64 octets of it, so that the line has room for the rest
-fn put_word(line: &mut [u8], at: usize, word: &[u8]) -> usize
+fn put_word(line: &mut [u8; 4096], at: usize, word: &[u8]) -> usize
     ensures { λ r. ⌜ Counts r (now (line .exit)) ⌝ }
 {
     let n = within(64, word);
@@ -97,7 +97,7 @@ fn put_word(line: &mut [u8], at: usize, word: &[u8]) -> usize
 }
 
 // How the tool is called, and the line's end
-fn put_call(line: &mut [u8], at: usize) -> usize
+fn put_call(line: &mut [u8; 4096], at: usize) -> usize
     ensures { λ r. ⌜ Counts r (now (line .exit)) ⌝ }
 {
     let called = put_text(line, at, b"; called as: parchfennel [-v] ");

@@ -5,7 +5,7 @@ ghost use Rattle.io.specs.Counts.{Counts};
 use crate::put_marked;
 use state::State;
 
-pub fn put_state(line: &mut [u8], at: usize, first: u8, mark: u8, s: State) -> usize
+pub fn put_state(line: &mut [u8; 4096], at: usize, first: u8, mark: u8, s: State) -> usize
     ensures { λ r. ⌜ Counts r (now (line .exit)) ⌝ }
 {
     let b = s.b;
@@ -18,7 +18,7 @@ pub fn put_state(line: &mut [u8], at: usize, first: u8, mark: u8, s: State) -> u
 }
 
 // YL to A2
-fn put_adaptation(line: &mut [u8], at: usize, mark: u8, s: State) -> usize
+fn put_adaptation(line: &mut [u8; 4096], at: usize, mark: u8, s: State) -> usize
     ensures { λ r. ⌜ Counts r (now (line .exit)) ⌝ }
 {
     let yl = put_marked(line, at, mark, s.yl as u64);
@@ -27,7 +27,7 @@ fn put_adaptation(line: &mut [u8], at: usize, mark: u8, s: State) -> usize
 }
 
 // B1 to B6, DQ1 to DQ6
-fn put_six(line: &mut [u8], at: usize, mark: u8, w: [u16; 6]) -> usize
+fn put_six(line: &mut [u8; 4096], at: usize, mark: u8, w: [u16; 6]) -> usize
     ensures { λ r. ⌜ Counts r (now (line .exit)) ⌝ }
 {
     let three = put_three(line, at, mark, w[0], w[1], w[2]);
@@ -35,7 +35,7 @@ fn put_six(line: &mut [u8], at: usize, mark: u8, w: [u16; 6]) -> usize
 }
 
 // SR1 to core
-fn put_signals(line: &mut [u8], at: usize, mark: u8, s: State) -> usize
+fn put_signals(line: &mut [u8; 4096], at: usize, mark: u8, s: State) -> usize
     ensures { λ r. ⌜ Counts r (now (line .exit)) ⌝ }
 {
     let sr2 = put_two(line, at, mark, s.sr1, s.sr2);
@@ -43,14 +43,14 @@ fn put_signals(line: &mut [u8], at: usize, mark: u8, s: State) -> usize
     put_marked(line, td, mark, s.core as u64)
 }
 
-fn put_two(line: &mut [u8], at: usize, mark: u8, v: u16, w: u16) -> usize
+fn put_two(line: &mut [u8; 4096], at: usize, mark: u8, v: u16, w: u16) -> usize
     ensures { λ r. ⌜ Counts r (now (line .exit)) ⌝ }
 {
     let one = put_marked(line, at, mark, v as u64);
     put_marked(line, one, mark, w as u64)
 }
 
-fn put_three(line: &mut [u8], at: usize, mark: u8, u: u16, v: u16, w: u16) -> usize
+fn put_three(line: &mut [u8; 4096], at: usize, mark: u8, u: u16, v: u16, w: u16) -> usize
     ensures { λ r. ⌜ Counts r (now (line .exit)) ⌝ }
 {
     let one = put_marked(line, at, mark, u as u64);

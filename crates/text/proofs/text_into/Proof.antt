@@ -1,12 +1,12 @@
--- `text::put_text` meets its contract. The loop's invariant: the line keeps its length. The measure is what is left to put.
+-- `text::text_into` meets its contract. The loop's invariant: the line keeps its length. The measure is what is left to put.
 -- Assumes nothing.
 use mathlib.Core.Path.{_≡_}
 use Prim.Native.Nat.{_-_, _≤_}
 use native.Mathlib.Omega.{arith}
 use lib.ListN.{length, length-set}
 use Rattle.io.proofs.Counting.{counts}
-use Rattle.text.proofs.put_text.Statement.{statement}
-use Rattle.text.proofs.put_text.Tie as tie
+use Rattle.text.proofs.text_into.Statement.{statement}
+use Rattle.text.proofs.text_into.Tie as tie
 
 abbrev Inv-loop : tie.InvT-loop
 Inv-loop line₀ at text to n i₀ line i = (i ≤ n) × (length line ≡ length line₀)
@@ -53,8 +53,8 @@ same-length c = omega arith
 returns : tie.Need-returns Inv-loop μ-loop
 returns c = counts _ _ (omega arith)
 
-pub put-text-spec : {M : Type 1} → statement M
-put-text-spec =
+pub text-into-spec : {M : Type 1} → statement M
+text-into-spec =
     tie.close
     (tie.spec
     Inv-loop
