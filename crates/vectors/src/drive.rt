@@ -5,7 +5,11 @@ ghost use Rattle.vectors.specs.Pairs.{NinePairs};
 ghost use Rattle.vectors.specs.Ready.{Ready, Begun, Sent};
 use crate::codewords::held;
 use crate::codewords::input_at;
-use crate::inputs;
+use crate::inputs::HOMING;
+use crate::inputs::JUMP;
+use crate::inputs::NORMAL;
+use crate::inputs::OVERLOAD;
+use crate::inputs::octets_of;
 use crate::lines::Note;
 use crate::lines::write_sample;
 use crate::runs::Kind;
@@ -31,29 +35,38 @@ pub struct Track {
 
 pub fn perform(run: Run, pcm: &[u8], dumped: bool) -> Track
     requires { ⌜ NinePairs (run .width) (run .core) ⌝ }
-    requires { ⌜ 43856 ≤ length (now pcm) ⌝ }
+    requires { ⌜ 52048 ≤ length (now pcm) ⌝ }
 {
     let t = started(run, pcm);
-    let law = law_in(run);
     let kind = run.kind;
     match kind {
-        Kind::Normal => encode_all(run, t, inputs::normal(pcm, law), dumped),
-        Kind::Overload => encode_all(run, t, inputs::overload(pcm, law), dumped),
         Kind::Codewords => decode_all(run, t, 16384, dumped),
         Kind::Held => decode_all(run, t, 2000, dumped),
+        _ => encode_all(run, t, octets_of(pcm, input_of(kind), law_in(run)), dumped),
+    }
+}
+
+// Of an input that is encoded, the number of its file of mu-law
+fn input_of(kind: Kind) -> usize
+    ensures { λ r. ⌜ r ≤ 6 ⌝ }
+{
+    match kind {
+        Kind::Normal => NORMAL,
+        Kind::Overload => OVERLOAD,
+        _ => JUMP,
     }
 }
 
 // From reset, and homed where the run asks it
 fn started(run: Run, pcm: &[u8]) -> Track
     requires { ⌜ NinePairs (run .width) (run .core) ⌝ }
-    requires { ⌜ 43856 ≤ length (now pcm) ⌝ }
+    requires { ⌜ 52048 ≤ length (now pcm) ⌝ }
     ensures { λ r. ⌜ Ready (run .width) r ⌝ }
 {
     let s = reset(run.core);
     let t = uncounted(s, s);
     if run.homed {
-        let h = encode_all(run, t, inputs::homing(pcm, law_in(run)), false);
+        let h = encode_all(run, t, octets_of(pcm, HOMING, law_in(run)), false);
         let encoder = h.encoder;
         let decoder = h.decoder;
         return uncounted(encoder, decoder);

@@ -1,50 +1,72 @@
-// The six files of PCM octets, in one buffer, one after the other. They are looked for in the folder that the program
-// is run in.
-ghost use Prim.Native.Nat.{_≤_};
+// The eight files of PCM octets, in one buffer, one after the other: of each input the file of mu-law and then that of
+// A-law. They are looked for in the folder that the program is run in.
+ghost use Prim.Native.Nat.{_≤_, _<_};
 ghost use lib.ListN.{length};
 use libc::STDERR_FILENO;
 
-// Where each begins
-const NORMAL_MU: usize = 0;
+const FILES: usize = 8;
 
-const NORMAL_A: usize = 16384;
+// The number of each input's file of mu-law; the next is that of A-law
+pub const NORMAL: usize = 0;
 
-const OVERLOAD_MU: usize = 32768;
+pub const OVERLOAD: usize = 2;
 
-const OVERLOAD_A: usize = 34816;
+pub const HOMING: usize = 4;
 
-const HOMING_MU: usize = 36864;
+pub const JUMP: usize = 6;
 
-const HOMING_A: usize = 40360;
+// Where each file begins in the buffer, and where the last one ends
+const STARTS: [usize; 9] = [0, 16384, 32768, 34816, 36864, 40360, 43856, 47952, 52048];
 
-const END: usize = 43856;
+pub struct Part {
+    pub from: usize,
+    pub to: usize,
+}
 
 // Reads them all, or says which could not be read
 pub fn load(pcm: &mut [u8]) -> bool
-    requires { ⌜ 43856 ≤ length (now pcm) ⌝ }
+    requires { ⌜ 52048 ≤ length (now pcm) ⌝ }
 {
-    if !load_part(pcm, NORMAL_MU, NORMAL_A, b"nrm.m") {
-        return false;
-    }
-    if !load_part(pcm, NORMAL_A, OVERLOAD_MU, b"nrm.a") {
-        return false;
-    }
-    if !load_part(pcm, OVERLOAD_MU, OVERLOAD_A, b"ovr.m") {
-        return false;
-    }
-    if !load_part(pcm, OVERLOAD_A, HOMING_MU, b"ovr.a") {
-        return false;
-    }
-    if !load_part(pcm, HOMING_MU, HOMING_A, b"init.m") {
-        return false;
-    }
-    load_part(pcm, HOMING_A, END, b"init.a")
+    // six octets a name
+    load_all(pcm, b"nrm.m nrm.a ovr.m ovr.a init.minit.ajump.mjump.a")
 }
 
-fn load_part(pcm: &mut [u8], from: usize, to: usize, name: &[u8]) -> bool
-    requires { ⌜ (from ≤ to) × (to ≤ length (now pcm)) ⌝ }
+fn load_all(pcm: &mut [u8], names: &[u8]) -> bool
+    requires { ⌜ 52048 ≤ length (now pcm) ⌝ }
+    requires { ⌜ 48 ≤ length (now names) ⌝ }
 {
-    read_file(name, &mut pcm[from..to])
+    let mut file = 0;
+    while file < FILES {
+        if !load_file(pcm, names, file) {
+            return false;
+        }
+        file += 1;
+    }
+    true
+}
+
+fn load_file(pcm: &mut [u8], names: &[u8], file: usize) -> bool
+    requires { ⌜ 52048 ≤ length (now pcm) ⌝ }
+    requires { ⌜ 48 ≤ length (now names) ⌝ }
+    requires { ⌜ file < 8 ⌝ }
+{
+    let part = part_of(file);
+    let from = part.from;
+    let to = part.to;
+    let first = 6 * file;
+    // the last four names have a sixth letter
+    let end = first + 5 + file / 4;
+    read_file(&names[first..end], &mut pcm[from..to])
+}
+
+fn part_of(file: usize) -> Part
+    requires { ⌜ file < 8 ⌝ }
+    ensures { λ r. ⌜ (r .from ≤ r .to) × (r .to ≤ 52048) ⌝ }
+{
+    Part {
+        from: STARTS[file],
+        to: STARTS[file + 1],
+    }
 }
 
 fn read_file(name: &[u8], octets: &mut [u8]) -> bool {
@@ -69,29 +91,13 @@ fn is_more(fd: i32) -> bool {
     0 < io::read_full(fd, &mut one)
 }
 
-pub fn normal(pcm: &[u8], law: u8) -> &[u8]
-    requires { ⌜ 43856 ≤ length (now pcm) ⌝ }
+// Of an input, by the number of its file of mu-law
+pub fn octets_of(pcm: &[u8], input: usize, law: u8) -> &[u8]
+    requires { ⌜ 52048 ≤ length (now pcm) ⌝ }
+    requires { ⌜ (input ≤ 6) × (law ≤ 1) ⌝ }
 {
-    if law == 0 {
-        return &pcm[NORMAL_MU..NORMAL_A];
-    }
-    &pcm[NORMAL_A..OVERLOAD_MU]
-}
-
-pub fn overload(pcm: &[u8], law: u8) -> &[u8]
-    requires { ⌜ 43856 ≤ length (now pcm) ⌝ }
-{
-    if law == 0 {
-        return &pcm[OVERLOAD_MU..OVERLOAD_A];
-    }
-    &pcm[OVERLOAD_A..HOMING_MU]
-}
-
-pub fn homing(pcm: &[u8], law: u8) -> &[u8]
-    requires { ⌜ 43856 ≤ length (now pcm) ⌝ }
-{
-    if law == 0 {
-        return &pcm[HOMING_MU..HOMING_A];
-    }
-    &pcm[HOMING_A..END]
+    let part = part_of(input + law as usize);
+    let from = part.from;
+    let to = part.to;
+    &pcm[from..to]
 }

@@ -29,7 +29,7 @@ pub fn write_run(run: Run, t: Track)
     io::write_all(STDOUT_FILENO, &line[..n]);
 }
 
-fn put_run(line: &mut [u8], run: Run, t: Track) -> usize
+fn put_run(line: &mut [u8; 4096], run: Run, t: Track) -> usize
     requires { ⌜ NinePairs (run .width) (run .core) ⌝ }
     ensures { λ r. ⌜ Counts r (now (line .exit)) ⌝ }
 {
@@ -46,12 +46,12 @@ fn do_ends_differ(kind: Kind, t: Track) -> bool {
     let encoder = t.encoder;
     let decoder = t.decoder;
     match kind {
-        Kind::Normal | Kind::Overload => !same_state(encoder, decoder),
+        Kind::Normal | Kind::Overload | Kind::Jump => !same_state(encoder, decoder),
         Kind::Codewords | Kind::Held => false,
     }
 }
 
-fn put_sums(line: &mut [u8], at: usize, t: Track) -> usize
+fn put_sums(line: &mut [u8; 4096], at: usize, t: Track) -> usize
     ensures { λ r. ⌜ Counts r (now (line .exit)) ⌝ }
 {
     let decoder = t.decoder;
@@ -68,7 +68,7 @@ pub fn write_sample(note: Note, codeword: u8, d: Decoded) {
     }
 }
 
-fn put_sample(line: &mut [u8], note: Note, codeword: u8, d: Decoded) -> usize
+fn put_sample(line: &mut [u8; 4096], note: Note, codeword: u8, d: Decoded) -> usize
     ensures { λ r. ⌜ Counts r (now (line .exit)) ⌝ }
 {
     let state = d.state;
@@ -79,7 +79,7 @@ fn put_sample(line: &mut [u8], note: Note, codeword: u8, d: Decoded) -> usize
 }
 
 // The sample's number, and the encoder's octet, or - where there is no encoder
-fn put_given(line: &mut [u8], note: Note) -> usize
+fn put_given(line: &mut [u8; 4096], note: Note) -> usize
     ensures { λ r. ⌜ Counts r (now (line .exit)) ⌝ }
 {
     let at = put_number(line, 0, note.index as u64);
@@ -89,7 +89,7 @@ fn put_given(line: &mut [u8], note: Note) -> usize
     put_text(line, at, b" -")
 }
 
-fn put_two(line: &mut [u8], at: usize, m: u64, n: u64) -> usize
+fn put_two(line: &mut [u8; 4096], at: usize, m: u64, n: u64) -> usize
     ensures { λ r. ⌜ Counts r (now (line .exit)) ⌝ }
 {
     let after = put_next(line, at, m);

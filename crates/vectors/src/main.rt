@@ -39,7 +39,7 @@ fn main() {
 }
 
 fn write_all_runs(pcm: &[u8])
-    requires { ⌜ 43856 ≤ length (now pcm) ⌝ }
+    requires { ⌜ 52048 ≤ length (now pcm) ⌝ }
 {
     let mut k = 0;
     while k < RUNS {
@@ -50,7 +50,7 @@ fn write_all_runs(pcm: &[u8])
 }
 
 fn dump(pcm: &[u8], name: &[u8])
-    requires { ⌜ 43856 ≤ length (now pcm) ⌝ }
+    requires { ⌜ 52048 ≤ length (now pcm) ⌝ }
 {
     let k = place_of(name);
     if k < RUNS {
@@ -60,7 +60,7 @@ fn dump(pcm: &[u8], name: &[u8])
     say_unknown(name);
 }
 
-// 183 where there is none
+// 189 where there is none
 fn place_of(name: &[u8]) -> usize {
     let mut k = 0;
     while k < RUNS {

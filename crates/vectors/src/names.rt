@@ -6,7 +6,7 @@ use crate::runs::Run;
 use libc::STDERR_FILENO;
 use text::put_text;
 
-pub fn put_name(line: &mut [u8], run: Run) -> usize
+pub fn put_name(line: &mut [u8; 4096], run: Run) -> usize
     requires { ⌜ NinePairs (run .width) (run .core) ⌝ }
     ensures { λ r. ⌜ Counts r (now (line .exit)) ⌝ }
 {
@@ -21,7 +21,7 @@ pub fn put_name(line: &mut [u8], run: Run) -> usize
     put_text(line, at, &rest)
 }
 
-fn put_input(line: &mut [u8], homed: bool, kind: Kind) -> usize
+fn put_input(line: &mut [u8; 4096], homed: bool, kind: Kind) -> usize
     ensures { λ r. ⌜ Counts r (now (line .exit)) ⌝ }
 {
     if let Kind::Held = kind {
@@ -39,6 +39,7 @@ fn input_letter(kind: Kind) -> u8 {
     match kind {
         Kind::Normal => b'N',
         Kind::Overload => b'V',
+        Kind::Jump => b'J',
         _ => b'I',
     }
 }
@@ -69,6 +70,7 @@ pub fn say_unknown(given: &[u8]) {
     );
     io::write_all(
         STDERR_FILENO,
-        b" and M, A, C or X, but M or A after I; or HELD22_M, HELD33_M, HELD44_M\n",
+        b" and M, A, C or X, but M or A after I; or RJ, one of 52 53 54, _, and M or A;",
     );
+    io::write_all(STDERR_FILENO, b" or HELD22_M, HELD33_M, HELD44_M\n");
 }

@@ -1,14 +1,15 @@
-// The 183 runs of docs/SEQUENCES.md, by their place in its order: all R, then all H, then the held codeword. Within R
-// and H the inputs N, V and I, within these the pairs, within a pair the laws M, A, C and X, or M and A.
-ghost use Prim.Native.Nat.{_<_};
+// The 189 runs of docs/SEQUENCES.md, by their place in its order: all R, then all H, then the jumps, then the held
+// codeword. Within R and H the inputs N, V and I, within these the pairs, within a pair the laws M, A, C and X, or M and A.
+ghost use Prim.Native.Nat.{_<_, _≤_};
 ghost use Rattle.vectors.specs.Pairs.{NinePairs};
 
-pub const RUNS: usize = 183;
+pub const RUNS: usize = 189;
 
 pub enum Kind {
     Normal,
     Overload,
     Codewords,
+    Jump,
     Held,
 }
 
@@ -24,11 +25,14 @@ pub struct Run {
 const PAIRS: [u8; 9] = [52, 42, 32, 22, 53, 43, 33, 54, 44];
 
 pub fn run_at(k: usize) -> Run
-    requires { ⌜ k < 183 ⌝ }
+    requires { ⌜ k < 189 ⌝ }
     ensures { λ r. ⌜ NinePairs (r .width) (r .core) ⌝ }
 {
+    if 186 <= k {
+        return held((k - 186) as u8 + 2);
+    }
     if 180 <= k {
-        return held((k - 180) as u8 + 2);
+        return jump(k - 180);
     }
     sequence_at(90 <= k, k % 90)
 }
@@ -60,6 +64,20 @@ fn paired(homed: bool, kind: Kind, p: usize, laws: usize) -> Run
     }
 }
 
+// At the widest of each core's pairs, under M and under A
+fn jump(j: usize) -> Run
+    requires { ⌜ j < 6 ⌝ }
+    ensures { λ r. ⌜ NinePairs (r .width) (r .core) ⌝ }
+{
+    Run {
+        homed: false,
+        kind: Kind::Jump,
+        width: 5,
+        core: (j / 2) as u8 + 2,
+        laws: j % 2,
+    }
+}
+
 fn held(core: u8) -> Run
     requires { ⌜ NinePairs core core ⌝ }
     ensures { λ r. ⌜ NinePairs (r .width) (r .core) ⌝ }
@@ -74,7 +92,9 @@ fn held(core: u8) -> Run
 }
 
 // The encoder's law, and that of the homing sequence: mu-law, 0, for M and C
-pub fn law_in(run: Run) -> u8 {
+pub fn law_in(run: Run) -> u8
+    ensures { λ r. ⌜ r ≤ 1 ⌝ }
+{
     if run.laws % 2 == 0 {
         return 0;
     }

@@ -10,16 +10,18 @@ pub enum Kind {
     Normal,
     Overload,
     Homing,
+    Jump,
 }
 
 impl Kind {
-    pub const ALL: [Kind; 3] = [Kind::Normal, Kind::Overload, Kind::Homing];
+    pub const ALL: [Kind; 4] = [Kind::Normal, Kind::Overload, Kind::Homing, Kind::Jump];
 
     pub fn samples(self) -> usize {
         match self {
             Kind::Normal => 16_384,
             Kind::Overload => 2_048,
             Kind::Homing => 3_496,
+            Kind::Jump => 4_096,
         }
     }
 
@@ -28,6 +30,7 @@ impl Kind {
             Kind::Normal => pcm::normal(),
             Kind::Overload => pcm::overload(),
             Kind::Homing => pcm::homing(),
+            Kind::Jump => pcm::jump(),
         }
     }
 
@@ -36,6 +39,7 @@ impl Kind {
             Kind::Normal => "nrm",
             Kind::Overload => "ovr",
             Kind::Homing => "init",
+            Kind::Jump => "jump",
         }
     }
 }
@@ -47,7 +51,7 @@ pub struct Input {
     pub octets: Vec<u8>,
 }
 
-/// The six files' contents.
+/// The eight files' contents.
 #[derive(Clone, Debug, PartialEq, Eq)]
 pub struct Inputs(pub Vec<Input>);
 
@@ -69,7 +73,7 @@ pub fn path(kind: Kind, law: Law) -> String {
     format!("{FOLDER}/{}.{suffix}", kind.stem())
 }
 
-fn all_six() -> impl Iterator<Item = (Kind, Law)> {
+fn all_eight() -> impl Iterator<Item = (Kind, Law)> {
     Kind::ALL
         .into_iter()
         .flat_map(|kind| Law::BOTH.map(|law| (kind, law)))
@@ -104,14 +108,14 @@ impl Input {
 impl Inputs {
     pub fn made() -> Inputs {
         Inputs(
-            all_six()
+            all_eight()
                 .map(|(kind, law)| Input::made(kind, law))
                 .collect(),
         )
     }
 
     pub fn read() -> Result<Inputs, String> {
-        all_six()
+        all_eight()
             .map(|(kind, law)| Input::read(kind, law))
             .collect::<Result<_, _>>()
             .map(Inputs)
@@ -124,6 +128,7 @@ impl Inputs {
 
     pub fn octets(&self, kind: Kind, law: Law) -> &[u8] {
         let wanted = |input: &&Input| (input.kind, input.law) == (kind, law);
-        &self.0.iter().find(wanted).expect("all six are held").octets
+        let found = self.0.iter().find(wanted);
+        &found.expect("all eight are held").octets
     }
 }

@@ -13,6 +13,7 @@ pub enum Input {
     Normal,
     Overload,
     Codewords,
+    Jump,
     Held,
 }
 
@@ -48,7 +49,7 @@ impl Input {
     fn laws(self) -> Vec<(Law, Law)> {
         match self {
             Input::Normal | Input::Overload => [SAME, ACROSS].concat(),
-            Input::Codewords => SAME.to_vec(),
+            Input::Codewords | Input::Jump => SAME.to_vec(),
             Input::Held => vec![SAME[0]],
         }
     }
@@ -61,6 +62,8 @@ pub fn all() -> Vec<Sequence> {
             found.extend(of_pairs(start, input, &PAIRS));
         }
     }
+    let widest = [(5, 2), (5, 3), (5, 4)];
+    found.extend(of_pairs(Start::Reset, Input::Jump, &widest));
     let unenhanced = [(2, 2), (3, 3), (4, 4)];
     found.extend(of_pairs(Start::Reset, Input::Held, &unenhanced));
     found
@@ -86,7 +89,8 @@ fn of_pairs(start: Start, input: Input, pairs: &[(u8, u8)]) -> Vec<Sequence> {
 pub const HOW_NAMES_ARE_MADE: &str =
     "R (from reset) or H (after homing), then N (normal), V (overload) or I (I-input), \
      then x and y of one of the nine pairs, then _, then M (mu), A (A), C (mu to A) or X (A to \
-     mu), as RN52_M, but no C or X after I; or else HELD22_M, HELD33_M or HELD44_M";
+     mu), as RN52_M, but no C or X after I; or else RJ (jumps), then 52, 53 or 54, then _, then M \
+     or A; or else HELD22_M, HELD33_M or HELD44_M";
 
 impl Sequence {
     pub fn name(&self) -> String {
@@ -105,6 +109,7 @@ impl Sequence {
             Input::Normal => format!("{start}N{width}{core}_{laws}"),
             Input::Overload => format!("{start}V{width}{core}_{laws}"),
             Input::Codewords => format!("{start}I{width}{core}_{laws}"),
+            Input::Jump => format!("{start}J{width}{core}_{laws}"),
             Input::Held => format!("HELD{width}{core}_{laws}"),
         }
     }

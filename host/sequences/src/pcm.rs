@@ -1,6 +1,6 @@
-//! The three PCM inputs as levels: for normal operation (004, section 6.1), for overload (6.2) and
-//! for homing (6.4.1). 004 gives frequencies and lengths; levels, phases and all of the homing
-//! sequence are ours.
+//! The four PCM inputs as levels: for normal operation (004, section 6.1), for overload (6.2), for
+//! homing (6.4.1), and the jumps, which are no sequence of 004. 004 gives frequencies and lengths;
+//! levels, phases, all of the homing sequence and the jumps are ours.
 
 use crate::modem;
 use crate::signals::{chord, constant, noise, tone, tone_from_peak};
@@ -60,5 +60,33 @@ pub fn homing() -> Vec<i32> {
         noise(3, 1_000, 600),
         tone(1_204, 900, 696),
     ]
+    .concat()
+}
+
+/// Tones, each of which ends in a jump: the tone detector is on, and TRANS has to decide. Found by
+/// search, so that it decides for a transition at every scale where one can be, at every core.
+pub fn jump() -> Vec<i32> {
+    [
+        [tone(2_954, 8_000, 256), noise(12, 8_000, 16)],
+        [tone(2_954, 8_000, 160), tone(2_204, 5_000, 16)],
+        [tone(2_404, 8_000, 64), tone_from_peak(1_504, 8_000, 16)],
+        [tone(3_004, 5_000, 256), tone(1_254, 8_000, 16)],
+        [tone(3_004, 1_000, 256), tone(2_954, 8_000, 16)],
+        [tone(2_954, 120, 256), tone(2_404, 250, 32)],
+        [tone(3_004, 60, 192), tone_from_peak(2_604, 8_000, 64)],
+        [tone(2_904, 500, 256), tone_from_peak(3_204, 4_000, 32)],
+        [tone(2_954, 60, 320), tone(3_154, 2_000, 96)],
+        [tone(2_704, 5_000, 160), tone(1_704, 6_000, 16)],
+        [tone(1_254, 30, 320), constant(-4_000, 8)],
+        [tone(804, 3_000, 256), constant(8_000, 8)],
+        [tone(1_704, 6_000, 240), tone(504, 8_000, 80)],
+        [tone(3_104, 8_000, 48), constant(2_000, 8)],
+        [tone(1_504, 8_000, 192), constant(6_000, 64)],
+        [tone(804, 8_000, 48), tone(3_104, 6_000, 16)],
+        [tone(1_254, 8_000, 96), tone_from_peak(2_604, 8_000, 16)],
+        [tone(1_504, 5_000, 96), constant(6_000, 8)],
+        [tone(1_704, 2_000, 48), constant(-8_000, 48)],
+    ]
+    .concat()
     .concat()
 }

@@ -61,6 +61,7 @@ pub fn play(sequence: &Sequence, inputs: &Inputs) -> Played {
     match sequence.input {
         Input::Normal => sent(&mut ends, pcm(Kind::Normal)),
         Input::Overload => sent(&mut ends, pcm(Kind::Overload)),
+        Input::Jump => sent(&mut ends, pcm(Kind::Jump)),
         Input::Codewords => received(&mut ends, codewords::i_input(sequence.width)),
         Input::Held => received(&mut ends, codewords::held(sequence.width)),
     }

@@ -14,7 +14,7 @@ fn names() -> Vec<String> {
 #[test]
 fn names_in_order() {
     let names = names();
-    assert_eq!(names.len(), 2 * (36 + 36 + 18) + 3);
+    assert_eq!(names.len(), 2 * (36 + 36 + 18) + 6 + 3);
     assert_eq!(
         names[..5],
         ["RN52_M", "RN52_A", "RN52_C", "RN52_X", "RN42_M"]
@@ -22,7 +22,8 @@ fn names_in_order() {
     assert_eq!(names[35..37], ["RN44_X", "RV52_M"]);
     assert_eq!(names[71..75], ["RV44_X", "RI52_M", "RI52_A", "RI42_M"]);
     assert_eq!(names[89..91], ["RI44_A", "HN52_M"]);
-    assert_eq!(names[179..], ["HI44_A", "HELD22_M", "HELD33_M", "HELD44_M"]);
+    assert_eq!(names[179..183], ["HI44_A", "RJ52_M", "RJ52_A", "RJ53_M"]);
+    assert_eq!(names[185..], ["RJ54_A", "HELD22_M", "HELD33_M", "HELD44_M"]);
 }
 
 #[test]
@@ -30,7 +31,9 @@ fn every_name_is_found_and_no_other() {
     for sequence in all() {
         assert_eq!(Sequence::named(&sequence.name()), Some(sequence));
     }
-    for name in ["", "RN25_M", "RI52_C", "HELD52_M", "RN52_M ", "rn52_m"] {
+    for name in [
+        "", "RN25_M", "RI52_C", "RJ42_M", "RJ52_C", "HJ52_M", "HELD52_M", "RN52_M ", "rn52_m",
+    ] {
         assert_eq!(Sequence::named(name), None);
     }
 }
@@ -53,6 +56,7 @@ fn each_line_has_its_name_and_four_numbers() {
         let words: Vec<&str> = line.split(' ').collect();
         let due = match &name[..2] {
             "RV" | "HV" => 2_048,
+            "RJ" => 4_096,
             "HE" => 2_000,
             _ => 16_384,
         };

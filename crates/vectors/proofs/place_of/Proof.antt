@@ -1,4 +1,4 @@
--- `vectors::place_of` is safe and ends. The loop's invariant: the place is at most 183. The measure is what is left of the places.
+-- `vectors::place_of` is safe and ends. The loop's invariant: the place is at most 189. The measure is what is left of the places.
 -- Assumes nothing.
 use Prim.Native.Nat.{_-_, _≤_}
 use native.Mathlib.Omega.{arith}
@@ -6,10 +6,10 @@ use Rattle.vectors.proofs.place_of.Statement.{statement}
 use Rattle.vectors.proofs.place_of.Tie as tie
 
 abbrev Inv-loop : tie.InvT-loop
-Inv-loop name k₀ k = k ≤ 183
+Inv-loop name k₀ k = k ≤ 189
 
 abbrev μ-loop : tie.MeasureT-loop
-μ-loop name k₀ k = 183 - k
+μ-loop name k₀ k = 189 - k
 
 loop-holds : tie.Need-loop-holds Inv-loop μ-loop
 loop-holds c = omega arith

@@ -1,4 +1,4 @@
-//! Writes the six files of PCM inputs.
+//! Writes the eight files of PCM inputs.
 
 use sequences::files::Inputs;
 use std::process::ExitCode;

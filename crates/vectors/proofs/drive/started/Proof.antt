@@ -21,8 +21,8 @@ uncounted-requires c κs = search needs
 law-in-requires : tie.Need-law-in-requires
 law-in-requires c κs = search needs
 
-homing-requires : tie.Need-homing-requires
-homing-requires c κs = search needs
+octets-of-requires : tie.Need-octets-of-requires
+octets-of-requires c κs = search needs
 
 encode-all-requires : tie.Need-encode-all-requires
 encode-all-requires c κs = from-reset (c .before .before .before)
@@ -45,7 +45,7 @@ started-spec =
     reset-requires
     uncounted-requires
     law-in-requires
-    homing-requires
+    octets-of-requires
     encode-all-requires
     uncounted-requires-2
     returns
