@@ -11,11 +11,11 @@ use crate::saying::say_reply;
 use crate::saying::say_state;
 use crate::saying::say_wrong;
 use crate::states::state_in;
-use calls::coder::encode;
-use calls::decoder::decode;
-use calls::dropper::drop_planes;
-use calls::starter::reset;
 use check::same;
+use decoder::decode;
+use dropper::drop_planes;
+use encoder::encode;
+use starter::reset;
 
 // The line as it is where it asks nothing, or with its answer, or what is wrong with it in its place
 pub fn answer(number: u64, line: &[u8]) {

@@ -1,9 +1,9 @@
 // What is said on standard output, as it comes: a line, the fields of its answer each behind a space, what is wrong.
 // Assumes nothing.
 ghost use Prim.Native.Nat.{_≤_, _<_};
-use calls::Reply;
-use calls::replies::number_of;
 use libc::STDOUT_FILENO;
+use replies::Reply;
+use replies::number_of;
 use state::State;
 use text::put_octets;
 use text::variables::put_state;

@@ -1,12 +1,12 @@
 // How the calls are used, as the README shows it: a frame is encoded, loses two planes on the way, and is heard.
-use calls::Reply;
-use calls::coder::encode;
-use calls::decoder::decode;
-use calls::dropper::drop_planes;
-use calls::replies::number_of;
-use calls::starter::reset;
 use checksum::same_state;
+use decoder::decode;
+use dropper::drop_planes;
+use encoder::encode;
 use libc::STDOUT_FILENO;
+use replies::Reply;
+use replies::number_of;
+use starter::reset;
 use state::State;
 
 fn main() {

@@ -10,7 +10,7 @@ use lib.ListN.{length, getD}
 use borrow.Author.Tests.{ltb-false, le-ltb, eqb-true, eq-eqb}
 use Rattle.words.specs.Notation.{pick}
 use Rattle.words.specs.Within.{Within}
-use Rattle.words.proofs.Pick.{passed, held}
+use Rattle.words.proofs.Pick.{passed, held, pick-le}
 use Rattle.frame.specs.Format.{edition, headerLength, group, mostGroups, editionOf, frameLength, badPair, badGroups, badCount}
 use Rattle.frame.specs.Read.{frameWidth, frameCore, frameGroups}
 use Rattle.frame.specs.Wrong.{wrongWith}
@@ -91,3 +91,14 @@ module _ (frame : List ℕ) where
         groups = groups-say g (row2 .0);
         whole = eqb-true (length frame) (frameLength x g) (row6 .0);
       }
+
+-- no number of a frame is above 9
+pub wrong-small : (frame : List ℕ) → wrongWith frame ≤ 9
+unfolding wrongWith
+wrong-small frame =
+    pick-le (ltb (length frame) headerLength) (omega arith)
+    (pick-le (eqb (editionOf (getD frame 0 0)) edition)
+    (pick-le (badPair (frameWidth frame) (frameCore frame)) (omega arith)
+    (pick-le (badGroups (frameGroups frame)) (omega arith)
+    (pick-le (eqb (length frame) (frameLength (frameWidth frame) (frameGroups frame))) (omega arith) (omega arith))))
+    (omega arith))

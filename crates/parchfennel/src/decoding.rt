@@ -10,10 +10,10 @@ use crate::stream::read_frame;
 use crate::stream::write_octets;
 use crate::words::are_words;
 use crate::words::law_at;
-use calls::decoder::decode;
-use calls::replies::number_of;
-use calls::starter::reset;
+use decoder::decode;
 use frame::format::core_of;
+use replies::number_of;
+use starter::reset;
 use state::State;
 use text::within;
 

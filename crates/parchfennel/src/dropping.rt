@@ -9,8 +9,8 @@ use crate::stream::write_octets;
 use crate::words::are_words;
 use crate::words::number_at;
 use crate::words::octet_of;
-use calls::dropper::drop_planes;
-use calls::replies::number_of;
+use dropper::drop_planes;
+use replies::number_of;
 use text::within;
 
 pub fn run(verbose: bool) {

@@ -29,3 +29,7 @@ unfolding Ic
 core-of-thinned s v w I low high =
     let sum : w - v + (v - s .core) ≡ w - s .core = omega arith in
     shr-shr I (w - v) (v - s .core) ∙ ap (λ (n : ℕ). I / 2 ^ n) sum
+
+-- a pair goes by the state's core alone
+pub pair-kept : {s t : State} {width : ℕ} → t .core ≡ s .core → Pair s width → Pair t width
+pair-kept e p = record { core = rw e (p .core); most = p .most }

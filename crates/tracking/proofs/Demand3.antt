@@ -19,11 +19,11 @@ use Rattle.frame.proofs.Fields.{written-fields, thinned-fields}
 use Rattle.frame.proofs.Return.{received-return}
 use Rattle.frame.proofs.Thinning.{received-thinned}
 use Rattle.frame.proofs.Kept.{written-sound}
-use Rattle.calls.specs.Reset.{resetState}
-use Rattle.calls.specs.Encode.{encodedFrame, encodedCodewords, encodedState}
-use Rattle.calls.specs.Decode.{decodedState, decodeState}
-use Rattle.calls.specs.Inner.{Codable}
-use Rattle.calls.proofs.Answers.{codewords-length}
+use Rattle.starter.specs.Reset.{resetState}
+use Rattle.encoder.specs.Encode.{encodedFrame, encodedCodewords, encodedState}
+use Rattle.decoder.specs.Decode.{decodedState, decodeState}
+use Rattle.encoder.specs.Inner.{Codable}
+use Rattle.encoder.proofs.Coding.{codewords-length}
 use Rattle.tracking.specs.Stream.{Way, encoderAfter, decoderAfter, Unrefused, AllUnrefused, EqualThroughout}
 use Rattle.tracking.proofs.Runs.{coding, coded, thin, same-run, states-track, codewords-short}
 use Rattle.tracking.proofs.Frames.{codable, written-is, encoder-is, finally, arrives}

@@ -15,11 +15,14 @@ use Rattle.frame.specs.Read.{frameWidth, frameCore, frameGroups, thinned}
 use Rattle.frame.specs.Sound.{Sound}
 use Rattle.frame.proofs.Fields.{thinned-fields}
 use Rattle.frame.proofs.Kept.{thinned-sound}
-use Rattle.calls.specs.Encode.{encodedFrame, encodedState, encodeReply}
-use Rattle.calls.specs.Decode.{decodeReply}
-use Rattle.calls.specs.Drop.{dropReply}
-use Rattle.calls.specs.Inner.{Codable, Playable}
-use Rattle.calls.proofs.Fitness.{encode-of, decode-of, drop-of}
+use Rattle.encoder.specs.Encode.{encodedFrame, encodedState, encodeReply}
+use Rattle.decoder.specs.Decode.{decodeReply}
+use Rattle.dropper.specs.Drop.{dropReply}
+use Rattle.encoder.specs.Inner.{Codable}
+use Rattle.decoder.specs.Inner.{Playable}
+use Rattle.encoder.proofs.Fitness.{encode-of}
+use Rattle.decoder.proofs.Fitness.{decode-of}
+use Rattle.dropper.proofs.Fitness.{drop-of}
 use Rattle.tracking.specs.Stream.{Station, Way, encoderAfter, Passed, decoderAfter, Unrefused, AllUnrefused, EqualThroughout, Downhill, Speakable, AllSpeakable}
 use Rattle.tracking.proofs.Runs.{run-in-range, run-core}
 use Rattle.tracking.proofs.Frames.{written-is, encoder-is, passed-is, finally, arrives}

@@ -17,11 +17,13 @@ use Rattle.frame.proofs.Sizes.{frame-length}
 use Rattle.frame.proofs.Fields.{thinned-fields}
 use Rattle.frame.proofs.Thinning.{thinned-same, thinned-thinned}
 use Rattle.frame.proofs.Kept.{thinned-sound, thinned-length}
-use Rattle.calls.specs.Encode.{encodedFrame, encodedCodewords, encodedState, encodeReply, encodeOctets, encodeState, encodeOut}
-use Rattle.calls.specs.Drop.{dropReply, dropOctets, dropOut}
-use Rattle.calls.specs.Inner.{Codable, Droppable}
-use Rattle.calls.proofs.Fitness.{encode-says, drop-says}
-use Rattle.calls.proofs.Answers.{codewords-length}
+use Rattle.encoder.specs.Encode.{encodedFrame, encodedCodewords, encodedState, encodeReply, encodeOctets, encodeState, encodeOut}
+use Rattle.dropper.specs.Drop.{dropReply, dropOctets, dropOut}
+use Rattle.encoder.specs.Inner.{Codable}
+use Rattle.dropper.specs.Inner.{Droppable}
+use Rattle.encoder.proofs.Fitness.{encode-says}
+use Rattle.dropper.proofs.Fitness.{drop-says}
+use Rattle.encoder.proofs.Coding.{codewords-length}
 use Rattle.tracking.specs.Stream.{Station, Way, written, encoderAfter, passedOn, arrived, Passed}
 
 module _ (s : State) (w : Way) (fits : encodeReply s (w .law) (w .width) (w .samples) (w .buffer) ≡ 0) where

@@ -16,7 +16,7 @@ use Rattle.sample.proofs.Cores.{pair-width}
 use Rattle.frame.specs.Planes.{frameOf}
 use Rattle.frame.specs.Read.{thinned}
 use Rattle.frame.proofs.Thinning.{frame-thinned}
-use Rattle.calls.specs.Encode.{encodedFrame, encodedCodewords, encodedState}
+use Rattle.encoder.specs.Encode.{encodedFrame, encodedCodewords, encodedState}
 use Rattle.tracking.proofs.Runs.{codewords-thinned, states-same}
 
 module _ (s : State) (LAW v w : ℕ) (xs : List ℕ) (range : InRange s) (pv : Pair s v) (pw : Pair s w) (narrow : v ≤ w) where

@@ -15,8 +15,8 @@ use Rattle.frame.proofs.Fields.{thinned-fields}
 use Rattle.frame.proofs.Thinning.{received-thinned}
 use lib.ListN.{length}
 use borrow.Author.Tests.{eq-eqb}
-use Rattle.calls.specs.Decode.{decodedState, decodeReply, decodeState}
-use Rattle.calls.proofs.Fitness.{decode-says}
+use Rattle.decoder.specs.Decode.{decodedState, decodeReply, decodeState}
+use Rattle.decoder.proofs.Fitness.{decode-says}
 use Rattle.tracking.specs.Stream.{Twin, Agree, AllAgree, TwinsEqual}
 use Rattle.tracking.proofs.Runs.{hearing, thin, same-run}
 

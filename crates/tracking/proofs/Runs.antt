@@ -14,7 +14,7 @@ use Rattle.sample.specs.Pair.{Pair}
 use Rattle.sample.specs.Encode.{encodeOf}
 use Rattle.sample.specs.Decode.{decodeOf}
 use Rattle.sample.proofs.Tracks.{encode-thinned, encode-same-state, decode-tracks, encode-codeword, encode-in-range, encode-core}
-use Rattle.calls.proofs.Coding.{pair-kept}
+use Rattle.sample.proofs.Cores.{pair-kept}
 
 -- one sample's step of the encoder and of the decoder, at a law and a width
 abbrev pub coding : ℕ → ℕ → State → ℕ → State

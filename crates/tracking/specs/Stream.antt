@@ -9,9 +9,9 @@ use Rattle.words.specs.Within.{Within}
 use Rattle.state.specs.declared.State.{State}
 use Rattle.frame.specs.Format.{group, mostGroups, frameLength}
 use Rattle.frame.specs.Read.{frameCore, thinned}
-use Rattle.calls.specs.Encode.{encodeReply, encodeOctets, encodeState, encodeOut}
-use Rattle.calls.specs.Drop.{dropReply, dropOctets, dropOut}
-use Rattle.calls.specs.Decode.{decodeReply, decodeState}
+use Rattle.encoder.specs.Encode.{encodeReply, encodeOctets, encodeState, encodeOut}
+use Rattle.dropper.specs.Drop.{dropReply, dropOctets, dropOut}
+use Rattle.decoder.specs.Decode.{decodeReply, decodeState}
 
 -- one base station: the width that it drops to, and its buffer
 pub record Station : Type 0 where

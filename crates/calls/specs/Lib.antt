@@ -1,6 +1,0 @@
-pub mod Reply
-pub mod Reset
-pub mod Encode
-pub mod Decode
-pub mod Drop
-pub mod Inner

@@ -1,0 +1,3 @@
+pub mod Fitness
+pub mod Coding
+pub mod Answers
