@@ -5,8 +5,7 @@ use libc::STDOUT_FILENO;
 use replies::Reply;
 use replies::number_of;
 use state::State;
-use text::put_octets;
-use text::variables::put_state;
+use text::Line;
 
 // How many octets are written as digits at a time
 const PIECE: usize = 2048;
@@ -26,9 +25,7 @@ pub fn say_reply(reply: Reply, octets: usize) {
 }
 
 pub fn say_state(s: State) {
-    let mut line = io::buffer();
-    let n = put_state(&mut line, 0, b' ', b',', s);
-    say(&line[..n]);
+    Line::empty().state(b' ', b',', s).write(STDOUT_FILENO);
 }
 
 // All octets, or - where there are none
@@ -57,9 +54,7 @@ fn end_of_piece(from: usize, length: usize) -> usize
 }
 
 fn say_piece(octets: &[u8]) {
-    let mut digits = io::buffer();
-    let n = put_octets(&mut digits, 0, octets);
-    say(&digits[..n]);
+    Line::empty().digits(octets).write(STDOUT_FILENO);
 }
 
 // A comment, in place of a line

@@ -5,15 +5,13 @@ use crate::stream::Pass;
 use crate::stream::is_cut;
 use crate::stream::passed;
 use crate::stream::read_frame;
-use crate::stream::write_octets;
+use crate::stream::write_line;
 use crate::words::are_words;
 use frame::format::core_of;
 use frame::format::edition_of;
 use frame::format::width_of;
 use frame::format::wrong_with;
-use text::put_next;
-use text::put_number;
-use text::put_text;
+use text::Line;
 
 pub fn run(verbose: bool) {
     if are_words(verbose, 1, 2) {
@@ -56,13 +54,15 @@ fn inspect_next(frame: u64, octet: u64) -> Pass {
 }
 
 fn show_frame(frame: u64, first: u8, g: u8, octets: usize) -> bool {
-    let mut line = io::buffer();
-    let at = put_number(&mut line, 0, frame);
-    let edition = put_next(&mut line, at, edition_of(first) as u64);
-    let x = put_next(&mut line, edition, width_of(first) as u64);
-    let y = put_next(&mut line, x, core_of(first) as u64);
-    let groups = put_next(&mut line, y, g as u64);
-    let counted = put_next(&mut line, groups, octets as u64);
-    let n = put_text(&mut line, counted, b"\n");
-    write_octets(&line[..n])
+    let groups = g as u64;
+    let count = octets as u64;
+    let line = Line::empty()
+        .number(frame)
+        .next(edition_of(first) as u64)
+        .next(width_of(first) as u64)
+        .next(core_of(first) as u64)
+        .next(groups)
+        .next(count)
+        .octet(b'\n');
+    write_line(line)
 }

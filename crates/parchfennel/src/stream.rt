@@ -13,6 +13,7 @@ use frame::format::wrong_with;
 use libc::STDIN_FILENO;
 use libc::STDOUT_FILENO;
 use state::State;
+use text::Line;
 use text::least;
 use text::within;
 
@@ -98,9 +99,16 @@ pub fn is_cut(frame: &[u8]) -> bool {
     wrong_with(frame) == 6
 }
 
-// Says so where they could not be written
 pub fn write_octets(octets: &[u8]) -> bool {
-    let written = io::write_all(STDOUT_FILENO, octets);
+    said(io::write_all(STDOUT_FILENO, octets))
+}
+
+pub fn write_line(line: Line) -> bool {
+    said(line.write(STDOUT_FILENO))
+}
+
+// Says so where it could not be written
+fn said(written: bool) -> bool {
     if !written {
         os::fail(b"parchfennel: standard output");
     }

@@ -1,87 +1,92 @@
-// A line is made in a buffer, from its start on, and written as a whole. Each function here answers where the next one
-// goes on. What has no room is left out; io::buffer has room enough for every line of the programs. It is lent as the
-// array that it is, since a slice that is lent on and on makes the check dear (docs/ARCHITECTURE.md).
+// A line of output is a value: each method gives it back with more at its end, and the last one writes it as a whole.
+// What has no room is left out; there is room enough for every line of the programs. It goes by value, since a buffer
+// that is lent from function to function makes the check dear (docs/ARCHITECTURE.md).
 // Assumes nothing.
 pub mod variables;
 
 ghost use Prim.Native.Nat.{_≤_};
 ghost use Rattle.io.specs.Counts.{Counts};
 
-pub fn put_text(line: &mut [u8; 4096], at: usize, text: &[u8]) -> usize
-    ensures { λ r. ⌜ Counts r (now (line .exit)) ⌝ }
-{
-    text_into(line, at, text)
+const ROOM: usize = 4096;
+
+pub struct Line {
+    pub octets: [u8; 4096],
+    pub count: usize,
 }
 
-fn text_into(line: &mut [u8], at: usize, text: &[u8]) -> usize
-    ensures { λ r. ⌜ Counts r (now (line .exit)) ⌝ }
-{
-    let to = within(at, line);
-    let n = least(text.len(), line.len() - to);
-    let mut i = 0;
-    while i < n {
-        line[to + i] = text[i];
-        i += 1;
+impl Line {
+    pub fn empty() -> Line {
+        let octets = io::buffer();
+        Line { octets, count: 0 }
     }
-    to + i
-}
 
-pub fn put_number(line: &mut [u8; 4096], at: usize, n: u64) -> usize
-    ensures { λ r. ⌜ Counts r (now (line .exit)) ⌝ }
-{
-    let mut digits = [0u8; 20];
-    let k = io::decimal(n, &mut digits);
-    put_text(line, at, &digits[..k])
-}
-
-// A space, and the number
-pub fn put_next(line: &mut [u8; 4096], at: usize, n: u64) -> usize
-    ensures { λ r. ⌜ Counts r (now (line .exit)) ⌝ }
-{
-    put_marked(line, at, b' ', n)
-}
-
-// The mark, and the number
-pub fn put_marked(line: &mut [u8; 4096], at: usize, mark: u8, n: u64) -> usize
-    ensures { λ r. ⌜ Counts r (now (line .exit)) ⌝ }
-{
-    let after = put(line, at, mark);
-    put_number(line, after, n)
-}
-
-// One octet
-pub fn put(line: &mut [u8; 4096], at: usize, octet: u8) -> usize
-    ensures { λ r. ⌜ Counts r (now (line .exit)) ⌝ }
-{
-    let one = [octet];
-    put_text(line, at, &one)
-}
-
-// Two hexadecimal digits each, with nothing between
-pub fn put_octets(line: &mut [u8; 4096], at: usize, octets: &[u8]) -> usize
-    ensures { λ r. ⌜ Counts r (now (line .exit)) ⌝ }
-{
-    octets_into(line, at, octets)
-}
-
-fn octets_into(line: &mut [u8], at: usize, octets: &[u8]) -> usize
-    ensures { λ r. ⌜ Counts r (now (line .exit)) ⌝ }
-{
-    let mut to = within(at, line);
-    let mut i = 0;
-    while i < octets.len() {
-        to = octet_into(line, to, octets[i]);
-        i += 1;
+    pub fn octet(self, octet: u8) -> Line {
+        let mut octets = self.octets;
+        let at = self.count;
+        if at < ROOM {
+            octets[at] = octet;
+            return Line {
+                octets,
+                count: at + 1,
+            };
+        }
+        self
     }
-    to
-}
 
-fn octet_into(line: &mut [u8], at: usize, octet: u8) -> usize
-    ensures { λ r. ⌜ Counts r (now (line .exit)) ⌝ }
-{
-    let mut digits = [0u8; 16];
-    let k = io::hex(octet as u64, 2, &mut digits);
-    text_into(line, at, &digits[..k])
+    pub fn text(self, words: &[u8]) -> Line {
+        let mut octets = self.octets;
+        let mut count = self.count;
+        let mut i = 0;
+        while i < words.len() {
+            if ROOM <= count {
+                return Line { octets, count };
+            }
+            octets[count] = words[i];
+            count += 1;
+            i += 1;
+        }
+        Line { octets, count }
+    }
+
+    pub fn number(self, n: u64) -> Line {
+        let mut digits = [0u8; 20];
+        let k = io::decimal(n, &mut digits);
+        self.text(&digits[..k])
+    }
+
+    // The mark, and the number
+    pub fn marked(self, mark: u8, n: u64) -> Line {
+        self.octet(mark).number(n)
+    }
+
+    // A space, and the number
+    pub fn next(self, n: u64) -> Line {
+        self.marked(b' ', n)
+    }
+
+    // Two hexadecimal digits for each octet, with nothing between
+    pub fn digits(self, octets: &[u8]) -> Line {
+        let mut line = self;
+        let mut i = 0;
+        while i < octets.len() {
+            line = line.two_digits(octets[i]);
+            i += 1;
+        }
+        line
+    }
+
+    fn two_digits(self, octet: u8) -> Line {
+        let mut digits = [0u8; 16];
+        let k = io::hex(octet as u64, 2, &mut digits);
+        self.text(&digits[..k])
+    }
+
+    // In one write
+    pub fn write(self, fd: i32) -> bool {
+        let octets = self.octets;
+        let n = within(self.count, &octets);
+        io::write_all(fd, &octets[..n])
+    }
 }
 
 // n, or the buffer's length where n is greater

@@ -1,17 +1,14 @@
 // The lines that are written: one for each sequence, or in a dump one for each sample (docs/SEQUENCES.md).
-ghost use Rattle.io.specs.Counts.{Counts};
 ghost use Rattle.vectors.specs.Pairs.{NinePairs};
 use crate::drive::Track;
-use crate::names::put_name;
+use crate::names::named;
 use crate::runs::Kind;
 use crate::runs::Run;
 use checksum::of_state;
 use checksum::same_state;
 use libc::STDOUT_FILENO;
 use sample::Decoded;
-use text::put_next;
-use text::put_number;
-use text::put_text;
+use text::Line;
 
 // Where a sample stands in a sequence, the octet that the encoder was given, and whether the sample is dumped
 pub struct Note {
@@ -24,21 +21,22 @@ pub struct Note {
 pub fn write_run(run: Run, t: Track)
     requires { ⌜ NinePairs (run .width) (run .core) ⌝ }
 {
-    let mut line = io::buffer();
-    let n = put_run(&mut line, run, t);
-    io::write_all(STDOUT_FILENO, &line[..n]);
+    let kind = run.kind;
+    summed(named(run), kind, t).octet(b'\n').write(STDOUT_FILENO);
 }
 
-fn put_run(line: &mut [u8; 4096], run: Run, t: Track) -> usize
-    requires { ⌜ NinePairs (run .width) (run .core) ⌝ }
-    ensures { λ r. ⌜ Counts r (now (line .exit)) ⌝ }
-{
-    let at = put_name(line, run);
-    let kind = run.kind;
+fn summed(line: Line, kind: Kind, t: Track) -> Line {
     if do_ends_differ(kind, t) {
-        return put_text(line, at, b" states differ\n");
+        return line.text(b" states differ");
     }
-    put_sums(line, at, t)
+    let decoder = t.decoder;
+    let samples = t.samples as u64;
+    let codewords = t.codewords as u64;
+    let bytes = t.bytes as u64;
+    line.next(samples)
+        .next(codewords)
+        .next(bytes)
+        .next(of_state(decoder) as u64)
 }
 
 // An I-input and the held codeword have no encoder beside the decoder
@@ -51,47 +49,29 @@ fn do_ends_differ(kind: Kind, t: Track) -> bool {
     }
 }
 
-fn put_sums(line: &mut [u8; 4096], at: usize, t: Track) -> usize
-    ensures { λ r. ⌜ Counts r (now (line .exit)) ⌝ }
-{
-    let decoder = t.decoder;
-    let sent = put_two(line, at, t.samples as u64, t.codewords as u64);
-    let heard = put_two(line, sent, t.bytes as u64, of_state(decoder) as u64);
-    put_text(line, heard, b"\n")
-}
-
 pub fn write_sample(note: Note, codeword: u8, d: Decoded) {
     if note.dumped {
-        let mut line = io::buffer();
-        let n = put_sample(&mut line, note, codeword, d);
-        io::write_all(STDOUT_FILENO, &line[..n]);
+        heard(given(note), codeword, d)
+            .octet(b'\n')
+            .write(STDOUT_FILENO);
     }
-}
-
-fn put_sample(line: &mut [u8; 4096], note: Note, codeword: u8, d: Decoded) -> usize
-    ensures { λ r. ⌜ Counts r (now (line .exit)) ⌝ }
-{
-    let state = d.state;
-    let given = put_given(line, note);
-    let heard = put_two(line, given, codeword as u64, d.byte as u64);
-    let last = put_two(line, heard, d.moved as u64, of_state(state) as u64);
-    put_text(line, last, b"\n")
 }
 
 // The sample's number, and the encoder's octet, or - where there is no encoder
-fn put_given(line: &mut [u8; 4096], note: Note) -> usize
-    ensures { λ r. ⌜ Counts r (now (line .exit)) ⌝ }
-{
-    let at = put_number(line, 0, note.index as u64);
+fn given(note: Note) -> Line {
+    let line = Line::empty().number(note.index as u64);
     if note.coded {
-        return put_next(line, at, note.input as u64);
+        return line.next(note.input as u64);
     }
-    put_text(line, at, b" -")
+    line.text(b" -")
 }
 
-fn put_two(line: &mut [u8; 4096], at: usize, m: u64, n: u64) -> usize
-    ensures { λ r. ⌜ Counts r (now (line .exit)) ⌝ }
-{
-    let after = put_next(line, at, m);
-    put_next(line, after, n)
+fn heard(line: Line, codeword: u8, d: Decoded) -> Line {
+    let state = d.state;
+    let byte = d.byte as u64;
+    let moved = d.moved as u64;
+    line.next(codeword as u64)
+        .next(byte)
+        .next(moved)
+        .next(of_state(state) as u64)
 }
