@@ -1,6 +1,7 @@
 // One run: encoder and decoder, or a decoder alone, through a sequence, after the homing sequence where there is one.
 ghost use Prim.Native.Nat.{_≤_};
 ghost use lib.ListN.{length};
+ghost use Rattle.quantizer.specs.Codeword.{Width, Codeword};
 ghost use Rattle.vectors.specs.Pairs.{NinePairs};
 ghost use Rattle.vectors.specs.Ready.{Ready, Begun, Sent};
 use crate::codewords::held;
@@ -171,15 +172,19 @@ fn received(run: Run, t: Track, place: usize, negative: bool) -> Encoded
     ensures { λ r. ⌜ Sent (run .width) r ⌝ }
 {
     let state = t.encoder;
-    let kind = run.kind;
-    if let Kind::Held = kind {
-        return Encoded {
-            codeword: held(run.width),
-            state,
-        };
-    }
     Encoded {
-        codeword: input_at(run.width, place, negative),
+        codeword: codeword_at(run, place, negative),
         state,
     }
+}
+
+fn codeword_at(run: Run, place: usize, negative: bool) -> u8
+    requires { ⌜ Width (run .width) ⌝ }
+    ensures { λ r. ⌜ Codeword (run .width) r ⌝ }
+{
+    let kind = run.kind;
+    if let Kind::Held = kind {
+        return held(run.width);
+    }
+    input_at(run.width, place, negative)
 }

@@ -22,7 +22,9 @@ pub fn write_run(run: Run, t: Track)
     requires { ⌜ NinePairs (run .width) (run .core) ⌝ }
 {
     let kind = run.kind;
-    summed(named(run), kind, t).octet(b'\n').write(STDOUT_FILENO);
+    summed(named(run), kind, t)
+        .octet(b'\n')
+        .write(STDOUT_FILENO);
 }
 
 fn summed(line: Line, kind: Kind, t: Track) -> Line {

@@ -21,12 +21,17 @@ use runs::run_at;
 
 fn main() {
     let mut pcm = io::large_buffer();
-    if !inputs::load(&mut pcm) {
-        return;
+    if inputs::load(&mut pcm) {
+        run_on(&pcm);
     }
+}
+
+fn run_on(pcm: &[u8])
+    requires { ⌜ 52048 ≤ length (now pcm) ⌝ }
+{
     let count = os::arg_count();
     if count < 2 {
-        write_all_runs(&pcm);
+        write_all_runs(pcm);
         return;
     }
     if 2 < count {
@@ -35,7 +40,7 @@ fn main() {
     }
     let mut name = io::buffer();
     let n = os::arg(1, &mut name);
-    dump(&pcm, &name[..n]);
+    dump(pcm, &name[..n]);
 }
 
 fn write_all_runs(pcm: &[u8])
