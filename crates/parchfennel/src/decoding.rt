@@ -1,13 +1,10 @@
 // decode LAW: frames in, G.711 octets out. The core is that of the first frame.
-use crate::report::refuse;
-use crate::report::say_cut;
 use crate::report::show_state;
 use crate::stream::Turn;
 use crate::stream::ended;
-use crate::stream::is_cut;
+use crate::stream::is_sent;
+use crate::stream::next_frame;
 use crate::stream::passed;
-use crate::stream::read_frame;
-use crate::stream::write_octets;
 use crate::words::are_words;
 use crate::words::law_at;
 use decoder::decode;
@@ -15,7 +12,7 @@ use frame::format::core_of;
 use replies::number_of;
 use starter::reset;
 use state::State;
-use text::within;
+use text::Line;
 
 // What the words ask
 pub struct Wish {
@@ -54,12 +51,8 @@ fn decode_all(wish: Wish, from: Turn) {
 
 fn decode_next(wish: Wish, turn: Turn, frame: u64) -> Turn {
     let mut octets = io::buffer();
-    let n = read_frame(&mut octets);
+    let n = next_frame(&mut octets, frame, turn.octet);
     if n == 0 {
-        return ended(turn);
-    }
-    if is_cut(&octets[..n]) {
-        say_cut(frame, turn.octet, n);
         return ended(turn);
     }
     let s = turn.state;
@@ -93,14 +86,13 @@ fn hear(wish: Wish, turn: Turn, frame: u64, octets: &[u8]) -> Turn {
     let heard = decode(state, wish.law, octets, &mut out);
     let reply = heard.reply;
     let number = number_of(reply);
-    if number != 0 {
-        refuse(frame, turn.octet, number);
-        return ended(turn);
-    }
-    let n = within(heard.octets, &out);
-    let more = write_octets(&out[..n]);
+    let made = Line {
+        octets: out,
+        count: heard.octets,
+    };
+    let more = is_sent(frame, turn.octet, number, made);
     let next = heard.state;
-    if wish.verbose {
+    if wish.verbose & (number == 0) {
         show_state(frame, next);
     }
     Turn {

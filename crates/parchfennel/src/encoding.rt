@@ -1,13 +1,14 @@
 // encode LAW WIDTH CORE [SAMPLES]: G.711 octets in, frames out. The last frame may be shorter than the others.
-ghost use Rattle.io.specs.Counts.{Counts};
+ghost use mathlib.Core.Path.{_≡_};
+ghost use lib.ListN.{length};
 use crate::report::refuse;
 use crate::report::say_filled;
 use crate::report::show_state;
 use crate::stream::Turn;
 use crate::stream::ended;
+use crate::stream::is_sent;
 use crate::stream::passed;
 use crate::stream::read_part;
-use crate::stream::write_octets;
 use crate::words::Number;
 use crate::words::are_words;
 use crate::words::is_there;
@@ -19,7 +20,7 @@ use frame::format::GROUP;
 use replies::number_of;
 use starter::reset;
 use state::State;
-use text::least;
+use text::Line;
 use text::within;
 
 // What the words ask
@@ -112,7 +113,7 @@ fn encode_all(plan: Plan, from: Turn) {
 }
 
 fn encode_next(plan: Plan, turn: Turn, frame: u64) -> Turn {
-    let mut samples = io::buffer();
+    let mut samples = silence(plan.law);
     let got = read_part(&mut samples, 0, plan.samples);
     if got == 0 {
         return ended(turn);
@@ -121,29 +122,18 @@ fn encode_next(plan: Plan, turn: Turn, frame: u64) -> Turn {
     if 0 < lacking {
         say_filled(frame, turn.octet, lacking);
     }
-    let n = fill(&mut samples, got, lacking, silence(plan.law));
+    let n = within(std::num::wrapping_add_usize(got, lacking), &samples);
     send(plan, turn, frame, &samples[..n])
 }
 
-fn silence(law: u8) -> u8 {
-    if law == 0 {
-        return 0xff;
-    }
-    0xd5
-}
-
-// So many octets of silence from index `from` on
-fn fill(samples: &mut [u8], from: usize, count: usize, octet: u8) -> usize
-    ensures { λ r. ⌜ Counts r (now (samples .exit)) ⌝ }
+// What is not read over stays silent, so that the last frame is filled up with it
+fn silence(law: u8) -> [u8; 4096]
+    ensures { λ r. ⌜ 4096 ≡ length r ⌝ }
 {
-    let to = within(from, samples);
-    let n = least(count, samples.len() - to);
-    let mut i = 0;
-    while i < n {
-        samples[to + i] = octet;
-        i += 1;
+    if law == 0 {
+        return [0xff; 4096];
     }
-    to + i
+    [0xd5; 4096]
 }
 
 // The frame is written and the state goes on, or the tool stops
@@ -153,14 +143,13 @@ fn send(plan: Plan, turn: Turn, frame: u64, samples: &[u8]) -> Turn {
     let coded = encode(state, plan.law, plan.width, samples, &mut out);
     let reply = coded.reply;
     let number = number_of(reply);
-    if number != 0 {
-        refuse(frame, turn.octet, number);
-        return ended(turn);
-    }
-    let n = within(coded.octets, &out);
-    let more = write_octets(&out[..n]);
+    let made = Line {
+        octets: out,
+        count: coded.octets,
+    };
+    let more = is_sent(frame, turn.octet, number, made);
     let next = coded.state;
-    if plan.verbose {
+    if plan.verbose & (number == 0) {
         show_state(frame, next);
     }
     Turn {

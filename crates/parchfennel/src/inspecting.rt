@@ -1,11 +1,8 @@
 // inspect: frames in, a line a frame out: index, edition, x, y, g, octets. There is no state to show.
-use crate::report::refuse;
-use crate::report::say_cut;
 use crate::stream::Pass;
-use crate::stream::is_cut;
+use crate::stream::is_sent;
+use crate::stream::next_frame;
 use crate::stream::passed;
-use crate::stream::read_frame;
-use crate::stream::write_line;
 use crate::words::are_words;
 use frame::format::core_of;
 use frame::format::edition_of;
@@ -34,35 +31,27 @@ fn inspect_all() {
 
 fn inspect_next(frame: u64, octet: u64) -> Pass {
     let mut octets = io::buffer();
-    let n = read_frame(&mut octets);
+    let n = next_frame(&mut octets, frame, octet);
     if n == 0 {
         return Pass { more: false, octet };
     }
-    if is_cut(&octets[..n]) {
-        say_cut(frame, octet, n);
-        return Pass { more: false, octet };
-    }
     let number = wrong_with(&octets[..n]);
-    if number != 0 {
-        refuse(frame, octet, number);
-        return Pass { more: false, octet };
-    }
+    let shown = line_of(frame, octets[0], octets[1], n);
     Pass {
-        more: show_frame(frame, octets[0], octets[1], n),
+        more: is_sent(frame, octet, number, shown),
         octet: passed(octet, &octets[..n]),
     }
 }
 
-fn show_frame(frame: u64, first: u8, g: u8, octets: usize) -> bool {
+fn line_of(frame: u64, first: u8, g: u8, octets: usize) -> Line {
     let groups = g as u64;
     let count = octets as u64;
-    let line = Line::empty()
+    Line::empty()
         .number(frame)
         .next(edition_of(first) as u64)
         .next(width_of(first) as u64)
         .next(core_of(first) as u64)
         .next(groups)
         .next(count)
-        .octet(b'\n');
-    write_line(line)
+        .octet(b'\n')
 }

@@ -5,12 +5,23 @@ use state::State;
 use text::Line;
 use text::within;
 
-// A reply other than 0: which frame, where it begins in the stream, the number and its words
+// A reply other than 0: which frame, where it begins in the stream, and the row of the table of replies
 pub fn refuse(frame: u64, octet: u64, number: u8) {
-    let n = number as u64;
-    let line = named(frame, octet).text(b": refused with ").number(n);
-    reasoned(line.octet(b':').octet(b' '), number)
-        .octet(b'\n')
+    named(frame, octet)
+        .text(b": refused with ")
+        .row(
+            number,
+            b"0: done\n\
+            1: width or core not one of the nine pairs\n\
+            2: sample count not a multiple of 8 from 8 to 320, or g not 1 to 40\n\
+            3: out buffer shorter than the result\n\
+            4: a state variable outside the table below\n\
+            5: fewer than 2 octets, or edition not 01\n\
+            6: length not 2 + x times g\n\
+            7: frame's core differs from the state's\n\
+            8: target width below y or above x\n\
+            9: law not 0 (mu) or 1 (A)\n",
+        )
         .write(STDERR_FILENO);
 }
 
@@ -21,22 +32,6 @@ fn named(frame: u64, octet: u64) -> Line {
         .number(frame)
         .text(b" at octet ")
         .number(octet)
-}
-
-// The words of the table of replies
-fn reasoned(line: Line, number: u8) -> Line {
-    match number {
-        0 => line.text(b"done"),
-        1 => line.text(b"width or core not one of the nine pairs"),
-        2 => line.text(b"sample count not a multiple of 8 from 8 to 320, or g not 1 to 40"),
-        3 => line.text(b"out buffer shorter than the result"),
-        4 => line.text(b"a state variable outside the table below"),
-        5 => line.text(b"fewer than 2 octets, or edition not 01"),
-        6 => line.text(b"length not 2 + x times g"),
-        7 => line.text(b"frame's core differs from the state's"),
-        8 => line.text(b"target width below y or above x"),
-        _ => line.text(b"law not 0 (mu) or 1 (A)"),
-    }
 }
 
 // The stream ends inside a frame, of which there are so many octets
@@ -53,18 +48,18 @@ pub fn say_missing() {
 }
 
 pub fn say_unknown(verbose: bool, i: usize) {
-    say_word(Line::empty().text(b"parchfennel: unknown word: "), verbose, i);
+    say_word(verbose, i, b"parchfennel: unknown word: ");
 }
 
 pub fn say_no_number(verbose: bool, i: usize) {
-    say_word(Line::empty().text(b"parchfennel: not a number: "), verbose, i);
+    say_word(verbose, i, b"parchfennel: not a number: ");
 }
 
 // What is wrong, and the word
-fn say_word(what: Line, verbose: bool, i: usize) {
+fn say_word(verbose: bool, i: usize, what: &[u8]) {
     let mut word = io::buffer();
     let k = os::arg(place(verbose, i), &mut word);
-    say_call(worded(what, &word[..k]));
+    say_call(worded(Line::empty().text(what), &word[..k]));
 }
 
 // At most 64 octets of it, so that the line has room for the rest
@@ -76,10 +71,10 @@ fn worded(line: Line, word: &[u8]) -> Line {
 // The line, and how the tool is called
 fn say_call(line: Line) {
     line.text(
-        b"; called as: parchfennel [-v] encode mu|a WIDTH CORE [SAMPLES] | drop WIDTH | \
+            b"; called as: parchfennel [-v] encode mu|a WIDTH CORE [SAMPLES] | drop WIDTH | \
         decode mu|a | inspect\n",
-    )
-    .write(STDERR_FILENO);
+        )
+        .write(STDERR_FILENO);
 }
 
 // By how many samples the last frame was filled up

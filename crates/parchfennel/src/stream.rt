@@ -1,6 +1,8 @@
 // Standard input in whole pieces: a count of octets, or a frame as long as its header says. Where a read fails it is
 // said, and what was read stands as if the stream had ended.
 ghost use Rattle.io.specs.Counts.{Counts};
+use crate::report::refuse;
+use crate::report::say_cut;
 use frame::format::EDITION;
 use frame::format::HEADER_LENGTH;
 use frame::format::bad_groups;
@@ -66,9 +68,24 @@ fn read_once(part: &mut [u8]) -> usize
     io::count(got, part)
 }
 
+// The next frame at the start of the buffer: 0 octets where the stream has ended, or ends inside the frame, which is said
+pub fn next_frame(buf: &mut [u8], frame: u64, octet: u64) -> usize
+    ensures { λ r. ⌜ Counts r (now (buf .exit)) ⌝ }
+{
+    let n = read_frame(buf);
+    if n == 0 {
+        return n;
+    }
+    if is_cut(&buf[..n]) {
+        say_cut(frame, octet, n);
+        return 0;
+    }
+    n
+}
+
 // A frame's octets at the start of the buffer: fewer than the header calls for where the stream ends, and none at its
 // end. Of a header that is itself wrong nothing follows: no call looks further.
-pub fn read_frame(buf: &mut [u8]) -> usize
+fn read_frame(buf: &mut [u8]) -> usize
     ensures { λ r. ⌜ Counts r (now (buf .exit)) ⌝ }
 {
     let head = read_part(buf, 0, HEADER_LENGTH);
@@ -92,23 +109,20 @@ fn end_of(first: u8, g: u8) -> usize {
 }
 
 // Whether the stream ended inside the frame
-pub fn is_cut(frame: &[u8]) -> bool {
+fn is_cut(frame: &[u8]) -> bool {
     if frame.len() < HEADER_LENGTH {
         return true;
     }
     wrong_with(frame) == 6
 }
 
-pub fn write_octets(octets: &[u8]) -> bool {
-    said(io::write_all(STDOUT_FILENO, octets))
-}
-
-pub fn write_line(line: Line) -> bool {
-    said(line.write(STDOUT_FILENO))
-}
-
-// Says so where it could not be written
-fn said(written: bool) -> bool {
+// What a call made of the frame is written, or why it refused is said. Answers whether there may be a next frame.
+pub fn is_sent(frame: u64, octet: u64, number: u8, made: Line) -> bool {
+    if number != 0 {
+        refuse(frame, octet, number);
+        return false;
+    }
+    let written = made.write(STDOUT_FILENO);
     if !written {
         os::fail(b"parchfennel: standard output");
     }

@@ -81,6 +81,27 @@ impl Line {
         self.text(&digits[..k])
     }
 
+    // Of rows that each end in a newline, the one with the number, counted from 0
+    pub fn row(self, number: u8, rows: &[u8]) -> Line {
+        let wanted = number as usize;
+        let mut line = self;
+        let mut row = 0;
+        let mut i = 0;
+        while i < rows.len() {
+            line = line.octet_if(row == wanted, rows[i]);
+            row = std::num::wrapping_add_usize(row, (rows[i] == b'\n') as usize);
+            i += 1;
+        }
+        line
+    }
+
+    fn octet_if(self, wanted: bool, octet: u8) -> Line {
+        if wanted {
+            return self.octet(octet);
+        }
+        self
+    }
+
     // In one write
     pub fn write(self, fd: i32) -> bool {
         let octets = self.octets;
