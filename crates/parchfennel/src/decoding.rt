@@ -2,8 +2,8 @@
 use crate::report::show_state;
 use crate::stream::Turn;
 use crate::stream::ended;
-use crate::stream::is_sent;
 use crate::stream::next_frame;
+use crate::stream::pass_on;
 use crate::stream::passed;
 use crate::words::are_words;
 use crate::words::law_at;
@@ -90,7 +90,7 @@ fn hear(wish: Wish, turn: Turn, frame: u64, octets: &[u8]) -> Turn {
         octets: out,
         count: heard.octets,
     };
-    let more = is_sent(frame, turn.octet, number, made);
+    let more = pass_on(frame, turn.octet, number, made);
     let next = heard.state;
     if wish.verbose & (number == 0) {
         show_state(frame, next);

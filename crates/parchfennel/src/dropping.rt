@@ -1,7 +1,7 @@
 // drop WIDTH: frames in, frames out, each given to the call as it is. There is no state to show.
 use crate::stream::Pass;
-use crate::stream::is_sent;
 use crate::stream::next_frame;
+use crate::stream::pass_on;
 use crate::stream::passed;
 use crate::words::are_words;
 use crate::words::number_at;
@@ -53,7 +53,7 @@ fn thin(width: u8, frame: u64, octet: u64, octets: &[u8]) -> Pass {
         count: dropped.octets,
     };
     Pass {
-        more: is_sent(frame, octet, number_of(reply), made),
+        more: pass_on(frame, octet, number_of(reply), made),
         octet: passed(octet, octets),
     }
 }

@@ -6,7 +6,7 @@ use crate::report::say_filled;
 use crate::report::show_state;
 use crate::stream::Turn;
 use crate::stream::ended;
-use crate::stream::is_sent;
+use crate::stream::pass_on;
 use crate::stream::passed;
 use crate::stream::read_part;
 use crate::words::Number;
@@ -147,7 +147,7 @@ fn send(plan: Plan, turn: Turn, frame: u64, samples: &[u8]) -> Turn {
         octets: out,
         count: coded.octets,
     };
-    let more = is_sent(frame, turn.octet, number, made);
+    let more = pass_on(frame, turn.octet, number, made);
     let next = coded.state;
     if plan.verbose & (number == 0) {
         show_state(frame, next);

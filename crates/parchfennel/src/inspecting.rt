@@ -1,7 +1,7 @@
 // inspect: frames in, a line a frame out: index, edition, x, y, g, octets. There is no state to show.
 use crate::stream::Pass;
-use crate::stream::is_sent;
 use crate::stream::next_frame;
+use crate::stream::pass_on;
 use crate::stream::passed;
 use crate::words::are_words;
 use frame::format::core_of;
@@ -38,7 +38,7 @@ fn inspect_next(frame: u64, octet: u64) -> Pass {
     let number = wrong_with(&octets[..n]);
     let shown = line_of(frame, octets[0], octets[1], n);
     Pass {
-        more: is_sent(frame, octet, number, shown),
+        more: pass_on(frame, octet, number, shown),
         octet: passed(octet, &octets[..n]),
     }
 }

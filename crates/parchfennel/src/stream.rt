@@ -117,7 +117,7 @@ fn is_cut(frame: &[u8]) -> bool {
 }
 
 // What a call made of the frame is written, or why it refused is said. Answers whether there may be a next frame.
-pub fn is_sent(frame: u64, octet: u64, number: u8, made: Line) -> bool {
+pub fn pass_on(frame: u64, octet: u64, number: u8, made: Line) -> bool {
     if number != 0 {
         refuse(frame, octet, number);
         return false;

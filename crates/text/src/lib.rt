@@ -1,7 +1,7 @@
 // A line of output is a value: each method gives it back with more at its end, and the last one writes it as a whole.
 // What has no room is left out; there is room enough for every line of the programs. It goes by value, since a buffer
-// that is lent from function to function makes the check dear (docs/ARCHITECTURE.md).
-// Assumes nothing.
+// that is lent from function to function makes the check dear (docs/ARCHITECTURE.md). It is written by the kit's io,
+// whose contracts are assumed.
 pub mod variables;
 
 ghost use Prim.Native.Nat.{_≤_};
@@ -9,8 +9,9 @@ ghost use Rattle.io.specs.Counts.{Counts};
 
 const ROOM: usize = 4096;
 
+// What is written at once: a line, or what a call has put into a buffer
 pub struct Line {
-    pub octets: [u8; 4096],
+    pub octets: [u8; ROOM],
     pub count: usize,
 }
 

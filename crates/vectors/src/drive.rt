@@ -1,6 +1,7 @@
 // One run: encoder and decoder, or a decoder alone, through a sequence, after the homing sequence where there is one.
 ghost use Prim.Native.Nat.{_≤_};
 ghost use lib.ListN.{length};
+ghost use Rattle.vectors.specs.Inputs.{inputOctets};
 ghost use Rattle.quantizer.specs.Codeword.{Width, Codeword};
 ghost use Rattle.vectors.specs.Pairs.{NinePairs};
 ghost use Rattle.vectors.specs.Ready.{Ready, Begun, Sent};
@@ -36,7 +37,7 @@ pub struct Track {
 
 pub fn perform(run: Run, pcm: &[u8], dumped: bool) -> Track
     requires { ⌜ NinePairs (run .width) (run .core) ⌝ }
-    requires { ⌜ 52048 ≤ length (now pcm) ⌝ }
+    requires { ⌜ inputOctets ≤ length (now pcm) ⌝ }
 {
     let t = started(run, pcm);
     let kind = run.kind;
@@ -61,7 +62,7 @@ fn input_of(kind: Kind) -> usize
 // From reset, and homed where the run asks it
 fn started(run: Run, pcm: &[u8]) -> Track
     requires { ⌜ NinePairs (run .width) (run .core) ⌝ }
-    requires { ⌜ 52048 ≤ length (now pcm) ⌝ }
+    requires { ⌜ inputOctets ≤ length (now pcm) ⌝ }
     ensures { λ r. ⌜ Ready (run .width) r ⌝ }
 {
     let s = reset(run.core);

@@ -2,6 +2,7 @@
 // A-law. They are looked for in the folder that the program is run in.
 ghost use Prim.Native.Nat.{_≤_, _<_};
 ghost use lib.ListN.{length};
+ghost use Rattle.vectors.specs.Inputs.{inputOctets};
 use libc::STDERR_FILENO;
 
 const FILES: usize = 8;
@@ -25,14 +26,14 @@ pub struct Part {
 
 // Reads them all, or says which could not be read
 pub fn load(pcm: &mut [u8]) -> bool
-    requires { ⌜ 52048 ≤ length (now pcm) ⌝ }
+    requires { ⌜ inputOctets ≤ length (now pcm) ⌝ }
 {
     // six octets a name
     load_all(pcm, b"nrm.m nrm.a ovr.m ovr.a init.minit.ajump.mjump.a")
 }
 
 fn load_all(pcm: &mut [u8], names: &[u8]) -> bool
-    requires { ⌜ 52048 ≤ length (now pcm) ⌝ }
+    requires { ⌜ inputOctets ≤ length (now pcm) ⌝ }
     requires { ⌜ 48 ≤ length (now names) ⌝ }
 {
     let mut file = 0;
@@ -46,7 +47,7 @@ fn load_all(pcm: &mut [u8], names: &[u8]) -> bool
 }
 
 fn load_file(pcm: &mut [u8], names: &[u8], file: usize) -> bool
-    requires { ⌜ 52048 ≤ length (now pcm) ⌝ }
+    requires { ⌜ inputOctets ≤ length (now pcm) ⌝ }
     requires { ⌜ 48 ≤ length (now names) ⌝ }
     requires { ⌜ file < 8 ⌝ }
 {
@@ -61,7 +62,7 @@ fn load_file(pcm: &mut [u8], names: &[u8], file: usize) -> bool
 
 fn part_of(file: usize) -> Part
     requires { ⌜ file < 8 ⌝ }
-    ensures { λ r. ⌜ (r .from ≤ r .to) × (r .to ≤ 52048) ⌝ }
+    ensures { λ r. ⌜ (r .from ≤ r .to) × (r .to ≤ inputOctets) ⌝ }
 {
     Part {
         from: STARTS[file],
@@ -93,7 +94,7 @@ fn is_more(fd: i32) -> bool {
 
 // Of an input, by the number of its file of mu-law
 pub fn octets_of(pcm: &[u8], input: usize, law: u8) -> &[u8]
-    requires { ⌜ 52048 ≤ length (now pcm) ⌝ }
+    requires { ⌜ inputOctets ≤ length (now pcm) ⌝ }
     requires { ⌜ (input ≤ 6) × (law ≤ 1) ⌝ }
 {
     let part = part_of(input + law as usize);

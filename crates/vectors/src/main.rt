@@ -11,6 +11,7 @@ mod signs;
 
 ghost use Prim.Native.Nat.{_≤_};
 ghost use lib.ListN.{length};
+ghost use Rattle.vectors.specs.Inputs.{inputOctets};
 use drive::perform;
 use libc::STDERR_FILENO;
 use lines::write_run;
@@ -27,7 +28,7 @@ fn main() {
 }
 
 fn run_on(pcm: &[u8])
-    requires { ⌜ 52048 ≤ length (now pcm) ⌝ }
+    requires { ⌜ inputOctets ≤ length (now pcm) ⌝ }
 {
     let count = os::arg_count();
     if count < 2 {
@@ -44,7 +45,7 @@ fn run_on(pcm: &[u8])
 }
 
 fn write_all_runs(pcm: &[u8])
-    requires { ⌜ 52048 ≤ length (now pcm) ⌝ }
+    requires { ⌜ inputOctets ≤ length (now pcm) ⌝ }
 {
     let mut k = 0;
     while k < RUNS {
@@ -55,7 +56,7 @@ fn write_all_runs(pcm: &[u8])
 }
 
 fn dump(pcm: &[u8], name: &[u8])
-    requires { ⌜ 52048 ≤ length (now pcm) ⌝ }
+    requires { ⌜ inputOctets ≤ length (now pcm) ⌝ }
 {
     let k = place_of(name);
     if k < RUNS {
@@ -65,7 +66,7 @@ fn dump(pcm: &[u8], name: &[u8])
     say_unknown(name);
 }
 
-// 189 where there is none
+// RUNS where there is none
 fn place_of(name: &[u8]) -> usize {
     let mut k = 0;
     while k < RUNS {

@@ -6,11 +6,12 @@ use Prim.Native.Nat.{ℕ, _+_}
 use lib.Dec.{leb, leb→le}
 use lib.ListN.{getD}
 use Rattle.words.proofs.Tests.{below-at}
+use Rattle.vectors.specs.Inputs.{inputOctets}
 use Rattle.vectors.proofs.inputs.part_of.Statement.{statement}
 use Rattle.vectors.proofs.inputs.part_of.Tie as tie
 
 starts : List ℕ
-starts = 0 ∷ 16384 ∷ 32768 ∷ 34816 ∷ 36864 ∷ 40360 ∷ 43856 ∷ 47952 ∷ 52048 ∷ []
+starts = 0 ∷ 16384 ∷ 32768 ∷ 34816 ∷ 36864 ∷ 40360 ∷ 43856 ∷ 47952 ∷ inputOctets ∷ []
 
 mul-t3 : tie.Need-mul-t3
 mul-t3 c = search needs
@@ -33,7 +34,7 @@ returns c =
     let file = c .args .file in
     let inside = c .pre in
     let start : ℕ → ℕ = λ k. getD starts k 0 in
-    (leb→le _ _ (below-at (λ k. leb (start k) (start (k + 1))) 8 file tt inside), leb→le _ _ (below-at (λ k. leb (start (k + 1)) 52048) 8 file tt inside))
+    (leb→le _ _ (below-at (λ k. leb (start k) (start (k + 1))) 8 file tt inside), leb→le _ _ (below-at (λ k. leb (start (k + 1)) inputOctets) 8 file tt inside))
 
 pub part-of-spec : {M : Type 1} → statement M
 part-of-spec = tie.close (tie.spec mul-t3 array-read-t6 add-t8 mul-t9 array-read-t12 returns)
