@@ -59,12 +59,20 @@ fn shortened(line: &str, copy: &Path) -> String {
     from_root.chars().take(SHOWN).collect()
 }
 
+fn is_unchanged(said: &str, program: &str) -> bool {
+    said.contains(&format!("rt: {program} proved (unchanged "))
+}
+
 fn judged(said: &str, copy: &Path) -> Result<Outcome, String> {
     if let Some(line) = said.lines().find(|line| line.contains(": error")) {
         return Ok(Outcome::Refused(shortened(line, copy)));
     }
     let mut noticed = Vec::new();
-    for program in PROGRAMS {
+    // A program that stands on nothing of what was changed is not run again, and cannot notice.
+    for program in PROGRAMS
+        .into_iter()
+        .filter(|program| !is_unchanged(said, program))
+    {
         let text = |place: PathBuf| {
             fs::read_to_string(&place)
                 .map_err(|error| format!("{}: {error}\n{said}", place.display()))
@@ -77,4 +85,19 @@ fn judged(said: &str, copy: &Path) -> Result<Outcome, String> {
         true => Outcome::Unnoticed,
         false => Outcome::Noticed(noticed),
     })
+}
+
+#[cfg(test)]
+mod tests {
+    use super::*;
+
+    #[test]
+    fn a_program_that_is_not_run_again_notices_nothing() {
+        let nowhere = Path::new("no such folder");
+        let vectors = "rt: vectors proved (unchanged since it was last proved)\n";
+        let both = format!("{vectors}rt: answers proved (unchanged since it was last proved)\n");
+        assert_eq!(judged(&both, nowhere), Ok(Outcome::Unnoticed));
+        let missing = judged(vectors, nowhere);
+        assert!(missing.is_err_and(|line| line.contains("answers")));
+    }
 }
