@@ -1,5 +1,4 @@
 // Each call is made on what a line's fields say, and its answer is said behind the line.
-// Assumes nothing.
 use crate::fields::number_in;
 use crate::fields::octets_in;
 use crate::fields::part;

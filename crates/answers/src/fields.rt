@@ -1,5 +1,4 @@
 // A line's fields stand between single spaces, a state's numbers between commas. Numbers and octets each have one form.
-// Assumes nothing.
 ghost use Rattle.io.specs.Counts.{Counts};
 use text::least;
 use text::within;

@@ -1,5 +1,4 @@
 // Whether a line's fields are those of a call: a letter stands for each field's form.
-// Assumes nothing.
 use crate::fields::are_octets;
 use crate::fields::has_part;
 use crate::fields::number_in;

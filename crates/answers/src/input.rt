@@ -1,6 +1,5 @@
 // A window over standard input, which holds a line of up to 131,072 characters and its end. Where a read fails, what
 // was read stands as if the input had ended.
-// Assumes nothing.
 ghost use mathlib.Core.Path.{_≡_};
 ghost use lib.ListN.{length};
 ghost use Rattle.io.specs.Counts.{Counts};

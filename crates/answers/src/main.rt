@@ -1,5 +1,4 @@
 // The calls that standard input asks for, a line each, with their answers on standard output (docs/ANSWERS.md).
-// Assumes nothing.
 mod answering;
 mod fields;
 mod forms;

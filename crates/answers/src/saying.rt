@@ -1,5 +1,4 @@
 // What is said on standard output, as it comes: a line, the fields of its answer each behind a space, what is wrong.
-// Assumes nothing.
 ghost use Prim.Native.Nat.{_≤_, _<_};
 use libc::STDOUT_FILENO;
 use replies::Reply;

@@ -1,5 +1,4 @@
 // A state's 25 numbers between commas, in the order of text::variables::put_state.
-// Assumes nothing.
 ghost use Prim.Native.Nat.{_≤_};
 use crate::fields::has_part;
 use crate::fields::number_in;

@@ -1,6 +1,5 @@
 // The checksum of octets and of a state, and whether two states are the same. docs/SEQUENCES.md says how it is computed;
 // it stays below 4,294,967,291, and a list of no numbers has 0.
-// Assumes nothing.
 use state::State;
 
 // One number more

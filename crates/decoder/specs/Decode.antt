@@ -1,5 +1,5 @@
 -- The call `decode(state, law, frame, out)`: rows 4, 9, 5, 1, 2, 6, 7, 3, then the bytes that a run of the sample's step over the received
--- codewords gives, the state that the run ends in, and how many bytes SYNC moved. Assumes nothing.
+-- codewords gives, the state that the run ends in, and how many bytes SYNC moved.
 use mathlib.Core.List.{List, _++_}
 use mathlib.Core.Path.{_≡_}
 use Prim.Native.Nat.{ℕ, _*_}

@@ -1,4 +1,4 @@
-// The call decode: its number, the work, the answer (specs/Decode.antt). Assumes nothing.
+// The call decode: its number, the work, the answer (specs/Decode.antt).
 ghost use mathlib.Core.Path.{_≡_};
 ghost use lib.ListN.{length};
 ghost use Rattle.decoder.specs.Decode.{decodeNumber, Decodes};

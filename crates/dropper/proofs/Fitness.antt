@@ -1,5 +1,4 @@
 -- What drop's 0 says of its inputs, and that fit inputs get no other number.
--- Assumes nothing.
 use mathlib.Core.Bool.{_||_}
 use mathlib.Core.List.{List}
 use mathlib.Core.Path.{_≡_}

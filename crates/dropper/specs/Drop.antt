@@ -1,4 +1,4 @@
--- The call `drop_planes(frame, width, out)`: rows 5, 1, 2, 6, 8, 3, then the frame with its first `width` planes. Assumes nothing.
+-- The call `drop_planes(frame, width, out)`: rows 5, 1, 2, 6, 8, 3, then the frame with its first `width` planes.
 use mathlib.Core.Bool.{Bool, _||_}
 use mathlib.Core.List.{List, _++_}
 use mathlib.Core.Path.{_≡_}

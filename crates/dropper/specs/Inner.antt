@@ -1,5 +1,4 @@
 -- What drop's 0 says of a frame, a width and a room. A reader of the public contract does not need it.
--- Assumes nothing.
 use mathlib.Core.List.{List}
 use Prim.Native.Nat.{ℕ, _≤_}
 use Rattle.words.specs.Within.{Within}

@@ -1,4 +1,4 @@
-// The call drop_planes: its number, the work, the answer (specs/Drop.antt). Assumes nothing.
+// The call drop_planes: its number, the work, the answer (specs/Drop.antt).
 ghost use mathlib.Core.Path.{_≡_};
 ghost use Rattle.dropper.specs.Drop.{dropNumber, Drops};
 use frame::format::core_of;

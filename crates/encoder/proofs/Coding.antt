@@ -1,6 +1,5 @@
 -- The loop that encodes all samples: the state so far is in range and of the same core, the run of the rest is the whole run, and the
 -- codewords so far stand in the buffer.
--- Assumes nothing.
 use mathlib.Core.Path.{_≡_, refl, _∙_}
 use mathlib.Core.List.{List}
 use Prim.Native.Nat.{ℕ, _+_, _≤_, _<_}

@@ -1,6 +1,5 @@
 -- The call `encode(state, law, width, samples, out)`: rows 4, 9, 1, 2, 3, then the frame of the codewords that a run of the sample's step
 -- gives, and the state that the run ends in. `samples`, `before` and `after` are the octets lent, and those of out at entry and at exit.
--- Assumes nothing.
 use mathlib.Core.List.{List, _++_}
 use mathlib.Core.Path.{_≡_}
 use Prim.Native.Nat.{ℕ, _/_}

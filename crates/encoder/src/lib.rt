@@ -1,4 +1,4 @@
-// The call encode: its number, the work, the answer (specs/Encode.antt). Assumes nothing.
+// The call encode: its number, the work, the answer (specs/Encode.antt).
 ghost use mathlib.Core.Path.{_≡_};
 ghost use Prim.Native.Nat.{_*_, _≤_};
 ghost use lib.ListN.{length};

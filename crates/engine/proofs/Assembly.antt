@@ -1,6 +1,5 @@
 -- The groups of `step::advance`, put together, are the step of Advance.antt: each law takes what a call promised and gives the quantity that
 -- the Recommendation names.
--- Assumes nothing.
 use mathlib.Core.Path.{_≡_, ap, _∙_}
 use mathlib.Core.List.{List, [], _∷_}
 use Prim.Native.Nat.{ℕ}

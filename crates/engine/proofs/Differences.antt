@@ -1,5 +1,4 @@
 -- A codeword's difference is a sign and a magnitude of 14 bits, on the feedback path and on the output path alike.
--- Assumes nothing.
 use mathlib.Core.Path.{_≡_}
 use Prim.Native.Nat.{ℕ, _+_, _*_, _%_, _≤_, _<_}
 use Rattle.words.specs.Within.{Within}

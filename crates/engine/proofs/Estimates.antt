@@ -1,5 +1,4 @@
 -- From a state in range, Y is in range and the estimates are 15-bit words.
--- Assumes nothing.
 use mathlib.Core.Path.{_≡_, ap}
 use Prim.Native.Nat.{_<_}
 use Rattle.words.specs.Within.{Within}

@@ -1,5 +1,4 @@
 -- A step from a state in range ends in range: all of 01's table, float words included, for every core and every core codeword.
--- Assumes nothing.
 use mathlib.Core.Path.{_≡_, refl}
 use Prim.Native.Nat.{ℕ, _≤_, _<_}
 use native.Mathlib.Omega.{arith}

@@ -1,5 +1,4 @@
 -- What a step gives is words, whatever state and codeword it starts from: A1, A2 and B1 to B6 have 16 bits, and there are six B and six DQ.
--- Assumes nothing.
 use mathlib.Core.Path.{refl}
 use Prim.Native.Nat.{ℕ, _<_}
 use Rattle.predictor.proofs.Range.{limc-range, limd-range, trigb-range, upa1-range, upa2-range, upb-range}

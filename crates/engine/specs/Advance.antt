@@ -1,6 +1,6 @@
 -- One sample's step of the state, from the state and the core codeword Ic alone: no enhancement bit can reach it. The sub-blocks stand in the
 -- order of Figures 7 to 12 of G.727. What the state holds is delayed: Y, SE and SEZ come from it (Estimate.antt), and so do TD, YL, PK1, PK2,
--- A1, A2, B1 to B6, DQ1 to DQ6, DMS, DML and AP below. Assumes nothing.
+-- A1, A2, B1 to B6, DQ1 to DQ6, DMS, DML and AP below.
 use mathlib.Core.List.{[], _∷_}
 use Prim.Native.Nat.{ℕ}
 use lib.ListN.{getD}

@@ -1,5 +1,5 @@
 -- Figure 7/G.727, the inverse adaptive quantizer: RECONST, ADDA and ANTILOG. The feedback path has the core codeword at the core's width,
--- the output path the received codeword at its own width. Assumes nothing.
+-- the output path the received codeword at its own width.
 use Prim.Native.Nat.{ℕ}
 use Rattle.logarithm.specs.Logarithm.{ADDA, ANTILOG}
 use Rattle.quantizer.specs.Output.{RECONST}

@@ -1,5 +1,5 @@
 -- What a state foretells of the next sample, before any bit of it is known: the scale factor Y, the signal estimate SE and its part SEZ from
--- the sixth order predictor. All come from delayed values (Figures 8, 9 and 10 of G.727). Assumes nothing.
+-- the sixth order predictor. All come from delayed values (Figures 8, 9 and 10 of G.727).
 use Prim.Native.Nat.{ℕ}
 use lib.ListN.{getD}
 use Rattle.scale.specs.Scale.{MIX}

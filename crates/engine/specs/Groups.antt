@@ -1,5 +1,5 @@
 -- The sub-blocks of one step in the groups that the code calls them in, as the contracts of its inner functions cite them. Advance.antt is
--- what a reader has to believe; it does not rest on this file. Assumes nothing.
+-- what a reader has to believe; it does not rest on this file.
 use mathlib.Core.List.{List, [], _∷_}
 use Prim.Native.Nat.{ℕ}
 use lib.ListN.{getD}

@@ -1,5 +1,4 @@
 -- A number to which a bit was added behind the others: what stands above that bit, and its lowest bits taken one by one.
--- Assumes nothing.
 use mathlib.Core.Path.{_≡_, sym}
 use Prim.Native.Nat.{ℕ, suc, _+_, _*_, _/_, _%_, _^_}
 use native.Mathlib.Nat.{add-mul, mul-assoc, pow-suc, pow-succ', div-div-eq-div-mul}

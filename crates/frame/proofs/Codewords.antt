@@ -1,5 +1,4 @@
 -- A codeword that is read from x planes has x bits.
--- Assumes nothing.
 use mathlib.Core.List.{List}
 use Prim.Native.Nat.{ℕ, zero, suc, _+_, _-_, _*_, _/_, _%_, _^_, _<_}
 use native.Mathlib.Nat.{pow-suc, add-zero, zero-add, add-suc, suc-add}

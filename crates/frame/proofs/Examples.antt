@@ -1,5 +1,4 @@
 -- The worked examples of 01, "The radio frame": eight codewords at (5, 2), their frame, and the frame thinned to a width.
--- Assumes nothing.
 use mathlib.Core.Path.{_≡_, refl}
 use mathlib.Core.List.{List, [], _∷_, map}
 use Prim.Native.Nat.{ℕ}

@@ -1,5 +1,4 @@
 -- The header read back: the fields and the planes of a frame that was written, or thinned, are those that were put in (01, "The radio frame").
--- Assumes nothing.
 use mathlib.Core.Path.{_≡_, refl}
 use mathlib.Core.List.{List, _∷_}
 use Prim.Native.Nat.{ℕ, _*_, _/_, _<_}

@@ -1,5 +1,4 @@
 -- A bit shifted in behind others; and the loop that gathers eight of them into an octet, by what is left to gather.
--- Assumes nothing.
 use mathlib.Core.Path.{_≡_, sym, _∙_}
 use mathlib.Core.List.{List}
 use Prim.Native.Nat.{ℕ, suc, _+_, _-_, _*_, _/_, _%_, _^_, _≤_, _<_}

@@ -1,5 +1,4 @@
 -- Soundness is kept: a frame that is written at one of the nine pairs is sound, and so is a sound frame thinned to a width that it allows.
--- Assumes nothing.
 use mathlib.Core.Path.{_≡_}
 use mathlib.Core.List.{List}
 use Prim.Native.Nat.{ℕ, _*_, _/_, _≤_}

@@ -1,5 +1,4 @@
 -- The loop that lays the planes one behind the other: `b` planes are left, and `at` is where the next one goes.
--- Assumes nothing.
 use mathlib.Core.Path.{_≡_, ap, _∙_}
 use mathlib.Core.List.{List, _++_}
 use Prim.Native.Nat.{ℕ, suc, _+_, _-_, _*_, _≤_, _<_}

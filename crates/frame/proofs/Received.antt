@@ -1,5 +1,4 @@
 -- The codewords of a frame: eight for each group, each of as many bits as the frame has planes.
--- Assumes nothing.
 use mathlib.Core.Path.{_≡_}
 use mathlib.Core.List.{List}
 use Prim.Native.Nat.{ℕ, _*_, _^_, _<_}

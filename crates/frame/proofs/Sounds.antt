@@ -1,5 +1,4 @@
 -- A frame with nothing wrong is sound, and a sound frame has nothing wrong; what the tests of pairs, groups and counts say.
--- Assumes nothing.
 use mathlib.Core.Bool.{Bool, true, false, _||_}
 use mathlib.Core.List.{List}
 use mathlib.Core.Path.{_≡_, refl}

@@ -1,5 +1,4 @@
 -- The radio frame's format (01, "The radio frame"): its limits, each named once, its header, and which pairs and counts it may have.
--- Assumes nothing.
 use mathlib.Core.Bool.{Bool, _||_}
 use Prim.Native.Nat.{ℕ, _+_, _*_, _%_}
 use lib.Dec.{ltb}

@@ -1,5 +1,5 @@
 -- A frame written (01, "The radio frame"): "x planes of g octets each: first the sign bits of all samples, then the next lower bit, and so on.
--- Within a plane the first sample has the most significant bit of the first octet." Assumes nothing.
+-- Within a plane the first sample has the most significant bit of the first octet."
 use mathlib.Core.List.{List, [], _∷_, _++_}
 use Prim.Native.Nat.{ℕ, zero, suc, _+_, _*_, _/_, _%_}
 use lib.ListN.{length, getD, drop}

@@ -1,5 +1,4 @@
 -- A frame read, and a frame thinned (01, "The radio frame"): "Dropping to width w keeps the first w planes and writes w in the x field."
--- Assumes nothing.
 use mathlib.Core.List.{List, _∷_}
 use Prim.Native.Nat.{ℕ, zero, suc, _+_, _-_, _*_, _/_, _%_}
 use lib.ListN.{getD, take, drop}

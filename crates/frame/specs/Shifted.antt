@@ -1,5 +1,4 @@
 -- One bit more: what the code's shift and mask come to, with the bound that the next shift wants. Only an inner function promises it.
--- Assumes nothing.
 use mathlib.Core.Path.{_≡_}
 use Prim.Native.Nat.{ℕ, _+_, _*_, _≤_}
 use Rattle.frame.specs.Planes.{bit}

@@ -1,4 +1,4 @@
--- What wrongWith's 0 says of a frame, as facts that a proof can use; proofs/Sounds.antt shows that the two are the same. Assumes nothing.
+-- What wrongWith's 0 says of a frame, as facts that a proof can use; proofs/Sounds.antt shows that the two are the same.
 use mathlib.Core.Path.{_≡_}
 use mathlib.Core.List.{List}
 use Prim.Native.Nat.{ℕ, _≤_}

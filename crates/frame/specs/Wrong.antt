@@ -1,4 +1,4 @@
--- What is wrong with a frame by itself, by 01's numbers: the rows 5, 1, 2 and 6, which decode and drop test in this order. Assumes nothing.
+-- What is wrong with a frame by itself, by 01's numbers: the rows 5, 1, 2 and 6, which decode and drop test in this order.
 use mathlib.Core.List.{List}
 use Prim.Native.Nat.{ℕ}
 use lib.Dec.{eqb, ltb}

@@ -1,5 +1,4 @@
 -- COMPRESS's levels: G.711's decision values bound each of them (Tables 1 and 2/G.711, column 5), and the code's formula finds it.
--- Assumes nothing.
 use mathlib.Core.Path.{_≡_}
 use mathlib.Core.List.{List, [], _∷_}
 use mathlib.Core.Bool.{Bool, true, false, _&&_}

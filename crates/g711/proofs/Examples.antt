@@ -1,5 +1,4 @@
 -- What the Recommendation shows by example near the origin, Tables 16 and 21/G.727, follows from the definitions.
--- Assumes nothing.
 use mathlib.Core.Path.{_≡_, refl}
 use mathlib.Core.List.{[], _∷_, _++_, map}
 use Rattle.g711.specs.G711.{decisions-mu, decisions-A}

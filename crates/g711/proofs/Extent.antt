@@ -1,5 +1,4 @@
 -- How far the levels of G.711 reach, where the scale ends, and that code words stay octets.
--- Assumes nothing.
 use mathlib.Core.Path.{_≡_, refl}
 use mathlib.Core.Bool.{Bool, true, false}
 use Prim.Native.Nat.{ℕ, zero, suc, _+_, _-_, _*_, _%_, _≤_, _<_}

@@ -1,5 +1,4 @@
 -- SP+ and SP- are next to SP: no level of its law lies between, and but for the ends of the scale SP+ is higher than SP and SP- lower.
--- Assumes nothing.
 use mathlib.Core.Path.{_≡_}
 use Prim.Native.Nat.{ℕ, zero, suc, _+_, _-_, _%_, _≤_, _<_}
 use native.Mathlib.Nat.{le-refl}

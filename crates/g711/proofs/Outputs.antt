@@ -1,5 +1,4 @@
 -- The values at decoder output (Tables 1 and 2/G.711, column 7) as the code computes them, and EXPAND made of them.
--- Assumes nothing.
 use mathlib.Core.Path.{_≡_}
 use mathlib.Core.List.{List}
 use Prim.Native.Nat.{ℕ, _+_, _-_, _*_, _/_, _%_, _^_, _≤_, _<_}

@@ -1,5 +1,4 @@
 -- A code word that is expanded and compressed again is the same one, but mu-law's negative zero comes back as the positive one.
--- Assumes nothing.
 use mathlib.Core.Path.{_≡_}
 use mathlib.Core.Bool.{_&&_}
 use Prim.Native.Nat.{ℕ, suc, _+_, _<_}

@@ -1,5 +1,5 @@
 -- The segments that both laws of companding count by: the number of bits of a magnitude names its segment, and the four bits behind the
--- leading one its place there. So counted, a greater magnitude has no lower level. Assumes nothing.
+-- leading one its place there. So counted, a greater magnitude has no lower level.
 use mathlib.Core.Path.{_≡_, refl, ap, _∙_}
 use mathlib.Core.Bool.{Bool, true, false}
 use Prim.Native.Nat.{ℕ, suc, _+_, _-_, _*_, _/_, _%_, _^_, _≤_, _<_, min}

@@ -1,5 +1,4 @@
 -- SP+ and SP- (G.727, section 6.2.10, SYNC) as the code finds them.
--- Assumes nothing.
 use mathlib.Core.Path.{_≡_}
 use Prim.Native.Nat.{ℕ, _+_, _-_, _<_}
 use lib.Dec.{eqb, leb, eqb·suc-zero}

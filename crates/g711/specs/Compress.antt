@@ -1,5 +1,4 @@
 -- G.727, section 6.2.10: COMPRESS. LAW is 0 for mu-law and 1 for A-law.
--- Assumes nothing.
 use mathlib.Core.List.{List, [], _∷_}
 use Prim.Native.Nat.{ℕ, _+_, _-_, _%_}
 use lib.Dec.{eqb, leb}

@@ -1,6 +1,5 @@
 -- G.727, section 6.2.1: EXPAND. LAW is 0 for mu-law and 1 for A-law (Table 5/G.727).
 -- A PCM code word has its sign first and then the number of its level: mu-law with all bits inverted, A-law with the even bits inverted.
--- Assumes nothing.
 use Prim.Native.Nat.{ℕ, _+_, _-_, _%_}
 use lib.Dec.{eqb}
 use lib.ListN.{getD}

@@ -1,6 +1,6 @@
 -- Recommendation G.711, Tables 1a, 1b, 2a and 2b: the decision values (column 5) and the values at decoder output (column 7) of
 -- the 128 levels of one sign, level 0 first, sixteen to a segment, a segment to a line. Both signs have the same values.
--- A level n reaches from its own decision value to the next one's; level 127 is held up to infinity. Assumes nothing.
+-- A level n reaches from its own decision value to the next one's; level 127 is held up to infinity.
 use mathlib.Core.List.{List, [], _∷_}
 use Prim.Native.Nat.{ℕ}
 

@@ -1,6 +1,6 @@
 -- G.727, section 6.2.10, SYNC: SP+, "the PCM code word that represents the next more positive PCM output level", and SP-, the next more
 -- negative one, each held at the end of the scale. mu-law's two zeros, FF and 7F, are one level, so neither steps to the other.
--- LAW is 0 for mu-law and 1 for A-law. Assumes nothing.
+-- LAW is 0 for mu-law and 1 for A-law.
 use Prim.Native.Nat.{ℕ, _+_, _-_}
 use lib.Dec.{eqb, leb, ltb}
 use Rattle.words.specs.Notation.{pick, _**_}

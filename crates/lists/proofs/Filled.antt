@@ -1,5 +1,4 @@
 -- A buffer d that is filled from the front with the list s of n elements: after j places it holds the first j of s and behind them what d held.
--- Assumes nothing.
 use mathlib.Core.Path.{_≡_, refl, _∙_}
 use mathlib.Core.List.{List, _++_}
 use Prim.Native.Nat.{ℕ, suc, _+_, _≤_, _<_}

@@ -1,6 +1,5 @@
 -- A buffer d that is written part by part from the front: `at` places of `whole` are written, `left` is still to come, and behind them
 -- stands what d held. The parts are lent to whoever writes them.
--- Assumes nothing.
 use mathlib.Core.Path.{_≡_, refl, sym, _∙_}
 use mathlib.Core.List.{List, [], _++_, append-assoc, append-nil}
 use Prim.Native.Nat.{ℕ, _+_, _≤_}

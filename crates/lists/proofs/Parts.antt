@@ -1,5 +1,4 @@
 -- What is dropped from the front of a list's first part, or of a list that was mapped.
--- Assumes nothing.
 use mathlib.Core.Path.{_≡_, refl}
 use mathlib.Core.List.{List, [], _∷_, map}
 use Prim.Native.Nat.{ℕ, zero, suc, _+_}

@@ -1,5 +1,4 @@
 -- The rest of a buffer, lent from a place on and come back: what is lent is the list from there on, and what comes back takes its place.
--- Assumes nothing.
 use mathlib.Core.Path.{_≡_, ap, _∙_}
 use mathlib.Core.List.{List, _++_, append-nil}
 use Prim.Native.Nat.{ℕ, _-_, _≤_}

@@ -1,5 +1,4 @@
 -- A loop that runs a step over a list, by what is left: at place i it is in state t, and the run of the rest from t is the whole run from s.
--- Assumes nothing.
 use mathlib.Core.Path.{_≡_, refl, sym, ap, _∙_}
 use mathlib.Core.List.{List, _∷_}
 use Prim.Native.Nat.{ℕ, suc, _+_, _≤_, _<_}

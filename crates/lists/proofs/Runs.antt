@@ -1,5 +1,4 @@
 -- Laws of runs. A loop that has passed i inputs keeps what is left: the run of the rest, from the state that it is in, is the whole run.
--- Assumes nothing.
 use mathlib.Core.Path.{_≡_, refl, ap}
 use mathlib.Core.List.{List, [], _∷_}
 use Prim.Native.Nat.{ℕ, suc, _+_, _<_}

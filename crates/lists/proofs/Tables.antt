@@ -1,5 +1,4 @@
 -- Laws of tabulated lists: their length, their entries, that equal entries make equal lists, and what a map makes of them.
--- Assumes nothing.
 use mathlib.Core.Path.{_≡_, refl, sym, ap, _∙_}
 use mathlib.Core.List.{List, _∷_, map}
 use Prim.Native.Nat.{ℕ, zero, suc, _+_, _<_, suc-le-suc}

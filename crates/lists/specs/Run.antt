@@ -1,5 +1,5 @@
 -- A step run over a list of inputs, whatever its state and its inputs are: the state at the end, what it puts out on the way, and the
--- sum of a count that it keeps. Assumes nothing.
+-- sum of a count that it keeps.
 use mathlib.Core.List.{List, [], _∷_}
 use Prim.Native.Nat.{ℕ, _+_}
 

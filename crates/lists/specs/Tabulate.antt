@@ -1,4 +1,4 @@
--- The list of f 0, f 1, .. f (n - 1). Assumes nothing.
+-- The list of f 0, f 1, .. f (n - 1).
 use mathlib.Core.List.{List, [], _∷_}
 use Prim.Native.Nat.{ℕ, zero, suc}
 

@@ -1,5 +1,4 @@
 -- ANTILOG by the sign of DQL, over the place s of DQ's sign bit.
--- Assumes nothing.
 use mathlib.Core.Path.{_≡_}
 use Prim.Native.Nat.{ℕ, _+_, _-_, _*_, _/_, _%_, _^_, _≤_, _<_}
 use native.Mathlib.Omega.{arith}

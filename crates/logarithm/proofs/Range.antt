@@ -1,5 +1,4 @@
 -- The ranges of LOG, SUBTB, ADDA and ANTILOG, for scale factors from 544 to 5,120.
--- Assumes nothing.
 use mathlib.Core.Path.{_≡_}
 use mathlib.Core.Logic.{_⊎_, inl, inr}
 use Prim.Native.Nat.{ℕ, _+_, _-_, _*_, _/_, _%_, _≤_, _<_}

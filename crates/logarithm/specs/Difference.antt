@@ -1,4 +1,4 @@
--- G.727, section 6.2.1: SUBTA. SL has 14 bits, SE 15 and D 16, all two's complement. Assumes nothing.
+-- G.727, section 6.2.1: SUBTA. SL has 14 bits, SE 15 and D 16, all two's complement.
 use Prim.Native.Nat.{ℕ, _+_, _-_, _%_}
 use lib.Dec.{eqb}
 use Rattle.words.specs.Notation.{pick, _>>_}

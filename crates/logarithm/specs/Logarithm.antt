@@ -1,5 +1,4 @@
 -- G.727, sections 6.2.2 and 6.2.4: LOG, SUBTB, ADDA and ANTILOG, the way from a difference to its normalized logarithm and back.
--- Assumes nothing.
 use Prim.Native.Nat.{ℕ, _+_, _-_, _%_}
 use lib.Dec.{eqb}
 use Rattle.words.specs.Notation.{pick, _<<_, _>>_}

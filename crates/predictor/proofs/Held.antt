@@ -1,6 +1,5 @@
 -- Bounds that the code computes within: f(a1) of UPA2, four times a1, is a 17-bit word and so is its negative; a threshold of TRANS has
 -- 21 bits.
--- Assumes nothing.
 use mathlib.Core.Path.{_≡_}
 use Prim.Native.Nat.{ℕ, _+_, _-_, _^_, _*_, _/_, _%_, _≤_, _<_, max}
 use native.Mathlib.Omega.{arith}

@@ -1,5 +1,4 @@
 -- A mantissa has its 1 in the most significant of six bits: it is 32 to 63, whatever the magnitude.
--- Assumes nothing.
 use mathlib.Core.Path.{_≡_}
 use Prim.Native.Nat.{ℕ, zero, suc, _+_, _*_, _/_, _^_, _≤_, _<_}
 use native.Mathlib.Nat.{pow-suc, le-div-iff-mul-le, div-lt-iff-lt-mul}

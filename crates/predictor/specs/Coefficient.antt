@@ -1,5 +1,5 @@
 -- G.727, section 6.2.7: the predictor's coefficients, UPA1, UPA2, LIMC, LIMD, UPB and TRIGB. All are 16-bit two's complement words and are
--- kept modulo 65,536: "implicitly limited" is no licence to clamp. Assumes nothing.
+-- kept modulo 65,536: "implicitly limited" is no licence to clamp.
 use mathlib.Core.Bool.{_&&_}
 use Prim.Native.Nat.{ℕ, _+_, _-_, _^_, _%_}
 use lib.Dec.{eqb, leb}

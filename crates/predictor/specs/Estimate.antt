@@ -1,5 +1,5 @@
 -- G.727, section 6.2.7: the signal estimate, FMULT and ACCUM. Coefficients are 16-bit two's complement words with 14 bits behind the point;
--- past signals are 11-bit float words, a sign, 4 exponent bits and 6 mantissa bits. Assumes nothing.
+-- past signals are 11-bit float words, a sign, 4 exponent bits and 6 mantissa bits.
 use Prim.Native.Nat.{ℕ, _+_, _-_, _*_, _%_}
 use lib.Dec.{eqb, leb}
 use Rattle.words.specs.Notation.{pick, _<<_, _>>_, _**_}

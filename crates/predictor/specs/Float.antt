@@ -1,5 +1,5 @@
 -- EXP and MANT of a magnitude, as FMULT, FLOATA and FLOATB compute them (G.727, section 6.2.7). Their exponent tables, ".. 3, 4 ≤ MAG ≤ 7;
--- 2, 2 ≤ MAG ≤ 3; 1, MAG = 1; 0, MAG = 0", are the number of bits of MAG. Assumes nothing.
+-- 2, 2 ≤ MAG ≤ 3; 1, MAG = 1; 0, MAG = 0", are the number of bits of MAG.
 use mathlib.Core.Path.{_≡_}
 use Prim.Native.Nat.{ℕ, _%_, _≤_, _<_}
 use lib.Dec.{eqb}

@@ -1,5 +1,5 @@
 -- G.727, section 6.2.7: ADDB, ADDC, FLOATA, FLOATB and XOR, what becomes of a quantized difference DQ.
--- DQ is a sign bit at place s with its magnitude below it: s is 14 in G.727; in G.726, whose DQ is a bit wider, it is 15. Assumes nothing.
+-- DQ is a sign bit at place s with its magnitude below it: s is 14 in G.727; in G.726, whose DQ is a bit wider, it is 15.
 use Prim.Native.Nat.{ℕ, _+_, _-_, _^_, _%_}
 use lib.Dec.{eqb}
 use Rattle.words.specs.Notation.{pick, _<<_, _>>_, _**_}

@@ -1,4 +1,4 @@
--- G.727, section 6.2.9: the tone and transition detector, TONE and TRANS. Assumes nothing.
+-- G.727, section 6.2.9: the tone and transition detector, TONE and TRANS.
 use mathlib.Core.Bool.{_&&_}
 use Prim.Native.Nat.{ℕ, _+_, _%_}
 use lib.Dec.{eqb, leb, ltb}

@@ -1,5 +1,4 @@
 -- Every difference that a codeword allows is allowed by its thinned form, at one scale factor, over the widths.
--- Assumes nothing.
 use mathlib.Core.Path.{ap, _∙_}
 use Prim.Native.Nat.{ℕ, _-_, _≤_}
 use Rattle.words.specs.Notation.{_>>_}

@@ -1,6 +1,5 @@
 -- A table of ranges gives one thing from a row's bound to the next, so what is to hold of all 4,096 values of DLN is tested where
 -- the rows begin. The bounds are those of Table 11, where the rows of the other tables begin too.
--- Assumes nothing.
 use mathlib.Core.Path.{_≡_, refl, sym, subst, ap, _∙_}
 use mathlib.Core.Bool.{Bool, true, not, _&&_, _||_}
 use mathlib.Core.List.{List, [], _∷_}

@@ -1,5 +1,5 @@
 -- The code's arrays, read off the tables: the thresholds of Tables 8 to 11 and the output levels of Tables 12 to 15,
--- each of the sign 0 and in rising order. Assumes nothing.
+-- each of the sign 0 and in rising order.
 use mathlib.Core.Bool.{_&&_}
 use mathlib.Core.List.{List, [], _∷_}
 use Prim.Native.Nat.{ℕ, _-_, _^_}

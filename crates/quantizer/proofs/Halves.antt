@@ -1,5 +1,5 @@
 -- The two halves of the codewords of a width, by their sign: the magnitude of a codeword and its place in the order, by its half.
--- Each is a test of every codeword of every width. Assumes nothing.
+-- Each is a test of every codeword of every width.
 use mathlib.Core.Path.{_≡_, sym, ap, _∙_}
 use mathlib.Core.Bool.{Bool}
 use Prim.Native.Nat.{ℕ, _+_, _-_, _*_, _%_, _^_, _≤_, _<_}

@@ -1,6 +1,5 @@
 -- Laws of QUAN and ID, over the width (G.727, sections 3, 6.2.2 and 6.2.10): the tables nest, and Tables 17 to 20 are Tables 8 to 11 in the
 -- order of the codewords. Each is a test at the bounds of the rows.
--- Assumes nothing.
 use mathlib.Core.Path.{_≡_, sym, _∙_, ap}
 use mathlib.Core.Bool.{Bool, _&&_}
 use Prim.Native.Nat.{ℕ, _+_, _-_, _^_, _≤_, _<_}

@@ -1,6 +1,5 @@
 -- The ranges of what RECONST, FUNCTW and FUNCTF give, and the column DQS of Tables 12 to 15.
 -- DQLN and WI are 12-bit words in two's complement: a range from -k to m is written (x + k) % 4096 ≤ k + m.
--- Assumes nothing.
 use mathlib.Core.Path.{_≡_}
 use mathlib.Core.Bool.{Bool, true, _&&_}
 use mathlib.Core.List.{List, [], _∷_}

@@ -1,5 +1,5 @@
 -- Tests that antt computes, over the numbers of a list, the widths and their codewords (words/proofs/Tests.antt has those over a span);
--- each with the law that turns it into a fact. Assumes nothing.
+-- each with the law that turns it into a fact.
 use mathlib.Core.Path.{sym, subst}
 use mathlib.Core.Bool.{Bool, true, false, not, _&&_, _||_}
 use mathlib.Core.List.{List, [], _∷_}

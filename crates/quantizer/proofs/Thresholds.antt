@@ -1,6 +1,5 @@
 -- The code's form of Tables 8 to 11: a codeword is the number of thresholds that the value has reached, or its complement
 -- (G.727, section 6.2.2; specs/Threshold.antt).
--- Assumes nothing.
 use mathlib.Core.Path.{_≡_, refl}
 use mathlib.Core.Bool.{Bool, _&&_}
 use mathlib.Core.List.{List, [], _∷_}

@@ -1,5 +1,5 @@
 -- What a codeword allows (01, "The steps of one sample"): exactly those differences that LOG, SUBTB and QUAN turn into it.
--- A difference is the 16-bit word D, two's complement, so D runs through all from -32,768 to 32,767. Assumes nothing.
+-- A difference is the 16-bit word D, two's complement, so D runs through all from -32,768 to 32,767.
 use mathlib.Core.Path.{_≡_}
 use Prim.Native.Nat.{ℕ, _<_}
 use Rattle.logarithm.specs.Logarithm.{LOG, SUBTB}

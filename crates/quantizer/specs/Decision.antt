@@ -1,5 +1,4 @@
 -- G.727, section 6.2.2: QUAN. Tables 8 to 11, row by row and digit for digit: DS, the range of DLN, and I.
--- Assumes nothing.
 use mathlib.Core.List.{List, [], _∷_}
 use Prim.Native.Nat.{ℕ}
 use lib.Dec.{eqb}

@@ -1,5 +1,4 @@
 -- G.727, sections 6.2.5 and 6.2.6: FUNCTW and FUNCTF, which go by the core alone. Their tables are written from IM = 0 upwards.
--- Assumes nothing.
 use mathlib.Core.List.{List, [], _∷_}
 use Prim.Native.Nat.{ℕ, _-_, _^_, _%_}
 use lib.Dec.{eqb}

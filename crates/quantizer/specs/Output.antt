@@ -1,5 +1,4 @@
 -- G.727, section 6.2.4: RECONST. Tables 12 to 15, row by row and digit for digit: I, DQS and DQLN.
--- Assumes nothing.
 use mathlib.Core.List.{List, [], _∷_}
 use Prim.Native.Nat.{ℕ, _-_}
 use lib.Dec.{eqb}

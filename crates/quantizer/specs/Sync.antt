@@ -1,6 +1,5 @@
 -- G.727, section 6.2.10, SYNC: the order of codewords. IM is the place of the received codeword among the levels, the most negative
 -- level first; ID is the place of the level that the re-encoded difference falls into. Tables 17 to 20, row by row and digit for digit.
--- Assumes nothing.
 use mathlib.Core.List.{List, [], _∷_}
 use Prim.Native.Nat.{ℕ, _+_, _-_, _^_, _%_}
 use lib.Dec.{eqb}

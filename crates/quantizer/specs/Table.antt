@@ -1,4 +1,4 @@
--- The rows of the Recommendation's tables, and how a table is read. Assumes nothing.
+-- The rows of the Recommendation's tables, and how a table is read.
 use mathlib.Core.Bool.{_&&_}
 use mathlib.Core.List.{List, [], _∷_}
 use Prim.Native.Nat.{ℕ}

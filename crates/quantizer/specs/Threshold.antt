@@ -1,6 +1,5 @@
 -- The form in which the code holds Tables 8 to 11: the thresholds of the sign 0 alone, from I = 1 upwards. The public promise
 -- is QUAN of Decision.antt; that this form is QUAN is proved.
--- Assumes nothing.
 use mathlib.Core.List.{List, [], _∷_}
 use Prim.Native.Nat.{ℕ, _+_, _-_, _*_, _%_}
 use lib.Dec.{eqb, leb}

@@ -1,5 +1,4 @@
 -- Answers put together: what a refusal leaves, what a success gives, and what a 0 says where a number is passed on.
--- Assumes nothing.
 use mathlib.Core.Path.{_≡_}
 use Prim.Native.Nat.{ℕ, _≤_}
 use native.Mathlib.Omega.{arith}

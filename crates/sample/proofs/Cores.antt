@@ -1,5 +1,4 @@
 -- The core bits of a codeword: a core codeword, the same whatever enhancement bits were dropped before.
--- Assumes nothing.
 use mathlib.Core.Path.{_≡_, ap, _∙_}
 use Prim.Native.Nat.{ℕ, _+_, _-_, _/_, _^_, _≤_, _<_}
 use native.Mathlib.Omega.{arith}

@@ -1,5 +1,4 @@
 -- 01's twelve first bytes: from reset at any core, encoder width 5, the first codeword. One claim over one list.
--- Assumes nothing.
 use mathlib.Core.List.{List, [], _∷_, map}
 use mathlib.Core.Path.{_≡_, refl}
 use Prim.Native.Nat.{ℕ}

@@ -1,5 +1,4 @@
 -- A normalized difference is a 12-bit word and a sign, and so the quantizer can read it.
--- Assumes nothing.
 use Prim.Native.Nat.{ℕ, _<_}
 use Rattle.g711.specs.Expand.{EXPAND}
 use Rattle.logarithm.specs.Logarithm.{LOG}

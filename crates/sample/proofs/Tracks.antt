@@ -1,5 +1,4 @@
 -- The core bits decide: the laws of one sample, each stated once over the widths and the laws of companding.
--- Assumes nothing.
 use mathlib.Core.Path.{_≡_, ap, _∙_}
 use Prim.Native.Nat.{ℕ, _-_, _^_, _≤_, _<_}
 use Rattle.words.specs.Notation.{_>>_}

@@ -1,6 +1,5 @@
 -- One sample decoded (Figures 7, 11 and 13 of G.727). The core bits move the state on; the whole received codeword I feeds the output path
 -- alone: RECONST, ADDA, ANTILOG and ADDB at the received width, COMPRESS, and SYNC, which requantizes at the received width.
--- Assumes nothing.
 use Prim.Native.Nat.{ℕ}
 use lib.Dec.{eqb, ltb}
 use Rattle.words.specs.Notation.{pick}

@@ -1,5 +1,5 @@
 -- One sample encoded (Figures 4, 5 and 6 of G.727): EXPAND, SUBTA, LOG, SUBTB and QUAN at the width x, from the estimate that the state
--- gives; the core bits of the codeword move the state on. Assumes nothing.
+-- gives; the core bits of the codeword move the state on.
 use Prim.Native.Nat.{ℕ}
 use Rattle.g711.specs.Expand.{EXPAND}
 use Rattle.logarithm.specs.Difference.{SUBTA}

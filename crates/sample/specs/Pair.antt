@@ -1,5 +1,4 @@
 -- A pair (x, y) of G.727, section 3: y core bits, which the state fixes, and x bits in all, and the bit masking of section 6.2.3.
--- Assumes nothing.
 use Prim.Native.Nat.{ℕ, _-_, _≤_}
 use Rattle.words.specs.Notation.{_>>_}
 use Rattle.state.specs.declared.State.{State}

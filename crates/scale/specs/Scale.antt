@@ -1,5 +1,5 @@
 -- G.727, section 6.2.5: quantizer scale factor adaptation. FUNCTW, whose table goes by the core, stands with the quantizer.
--- YU and Y have 9 bits behind the point, YL 15, AL 6. Assumes nothing.
+-- YU and Y have 9 bits behind the point, YL 15, AL 6.
 use Prim.Native.Nat.{ℕ, _+_, _-_, _*_, _%_}
 use lib.Dec.{eqb}
 use Rattle.words.specs.Notation.{pick, _<<_, _>>_}

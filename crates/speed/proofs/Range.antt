@@ -1,6 +1,5 @@
 -- Speed control stays in 01's ranges: DMS up to 3,584, DML up to 14,336, AP up to 512. Each average moves towards a target that is in the
 -- range itself, and never past it.
--- Assumes nothing.
 use mathlib.Core.Bool.{_&&_}
 use mathlib.Core.Path.{_≡_}
 use Prim.Native.Nat.{ℕ, _+_, _-_, _*_, _/_, _%_, _≤_}

@@ -1,5 +1,4 @@
 -- G.727, section 6.2.6: adaptation speed control. FUNCTF, whose table goes by the core, stands with the quantizer.
--- Assumes nothing.
 use mathlib.Core.Bool.{_&&_}
 use Prim.Native.Nat.{ℕ, _+_, _-_, _%_}
 use lib.Dec.{eqb, leb, ltb}

@@ -1,5 +1,4 @@
 -- The contract of reset leaves no choice: two answers that conform to it are equal.
--- Assumes nothing.
 use mathlib.Core.Path.{_≡_, sym, _∙_}
 use Prim.Native.Nat.{ℕ}
 use Rattle.replies.proofs.Equal.{reply-equal}

@@ -1,4 +1,4 @@
--- The call `reset(core)`: row 1 only, "for a core not 2 to 4, and it then hands back the reset state of core 2". Assumes nothing.
+-- The call `reset(core)`: row 1 only, "for a core not 2 to 4, and it then hands back the reset state of core 2".
 use mathlib.Core.Bool.{_||_}
 use mathlib.Core.Path.{_≡_}
 use Prim.Native.Nat.{ℕ}

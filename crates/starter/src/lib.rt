@@ -1,4 +1,4 @@
-// The call reset: its reply and the state that it hands out (specs/Reset.antt). Assumes nothing.
+// The call reset: its reply and the state that it hands out (specs/Reset.antt).
 ghost use Rattle.starter.specs.Reset.{Resets};
 use replies::Reply;
 use state::State;

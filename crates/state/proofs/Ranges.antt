@@ -1,5 +1,4 @@
 -- 01's table as a test and as facts: each follows from the other. The reset state is in range, and its words are words.
--- Assumes nothing.
 use mathlib.Core.Bool.{true}
 use mathlib.Core.List.{List}
 use mathlib.Core.Path.{_≡_, refl}

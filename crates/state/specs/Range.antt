@@ -1,6 +1,5 @@
 -- 01's table of the state's ranges, row by row, as a test. A1, A2 and B1 to B6 may be any 16-bit word, so they have no test: Words.antt says that
 -- they are words, and engine/proofs/Words.antt shows it of every state that a step gives.
--- Assumes nothing.
 use mathlib.Core.Bool.{Bool}
 use mathlib.Core.List.{List, [], _∷_}
 use Prim.Native.Nat.{ℕ, _%_}

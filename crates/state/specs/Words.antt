@@ -1,5 +1,5 @@
 -- What 01's table has no test for: A1, A2 and B1 to B6 are 16-bit words, and there are six B and six DQ. The code's State says so by its types;
--- here a State holds numbers and lists, which could be any. Assumes nothing.
+-- here a State holds numbers and lists, which could be any.
 use mathlib.Core.List.{List}
 use mathlib.Core.Path.{_≡_}
 use Prim.Native.Nat.{ℕ, _<_}

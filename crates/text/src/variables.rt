@@ -1,6 +1,5 @@
 // The 25 numbers of a state, in the order of 01's table of ranges. Before the first stands one mark, before each of the
 // others another.
-// Assumes nothing.
 use crate::Line;
 use state::State;
 

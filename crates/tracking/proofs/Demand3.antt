@@ -1,7 +1,6 @@
 -- Demand 3: no thrown-away bit reaches the far end's predictor. From one reset on, whatever was dropped at however many base stations, and
 -- whichever law either end speaks, the decoder's state equals the encoder's after every frame. Both are the states of demand 2: what
 -- encodeState and decodeState of the calls' contracts say, which a call that keeps the reset state does not give.
--- Assumes nothing.
 use mathlib.Core.List.{List, [], _∷_, map}
 use mathlib.Core.Path.{_≡_, _∙_}
 use Prim.Native.Nat.{ℕ, _*_, _/_, _<_}

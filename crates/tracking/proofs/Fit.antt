@@ -1,5 +1,4 @@
 -- Fit inputs are not refused: demand 3's premise follows where each frame's inputs are fit by themselves, whatever the speech is.
--- Assumes nothing.
 use mathlib.Core.List.{List, [], _∷_}
 use mathlib.Core.Path.{_≡_, refl, _∙_}
 use Prim.Native.Nat.{ℕ, _/_, _<_}

@@ -1,5 +1,4 @@
 -- One frame's way: what the encoder wrote, what each base station passes on and what arrives, as frames of codewords.
--- Assumes nothing.
 use mathlib.Core.List.{List, [], _∷_}
 use mathlib.Core.Path.{_≡_, sym, _∙_}
 use Prim.Native.Nat.{ℕ, _/_, _<_}

@@ -1,6 +1,5 @@
 -- A thinned frame is, octet for octet, what encode would have written at the narrower width from the same state, with the same state after
 -- it; and every difference that a codeword allows at a state is allowed by its thinned form.
--- Assumes nothing.
 use mathlib.Core.List.{List, map}
 use mathlib.Core.Path.{_≡_, sym, ap, _∙_}
 use Prim.Native.Nat.{ℕ, _-_, _≤_, _<_}

@@ -1,6 +1,5 @@
 -- What an observer at the far end gets: the state after a frame depends on the frame's core planes alone. Two frames that agree on them move
 -- a decoder to the same state, whatever their enhancement planes say and whichever law it speaks.
--- Assumes nothing.
 use mathlib.Core.List.{List, [], _∷_, map}
 use mathlib.Core.Path.{_≡_, refl, sym, ap, _∙_}
 use Prim.Native.Nat.{ℕ, _≤_, _<_}

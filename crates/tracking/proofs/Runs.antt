@@ -1,6 +1,5 @@
 -- Whole runs of samples: encoding at a narrower width gives the thinned codewords and the same state, and a decoder that is given the
 -- thinned codewords ends in the encoder's state.
--- Assumes nothing.
 use mathlib.Core.List.{List, [], _∷_, map}
 use mathlib.Core.Path.{_≡_, refl, ap, _∙_}
 use Prim.Native.Nat.{ℕ, zero, suc, _-_, _^_, _≤_, _<_}

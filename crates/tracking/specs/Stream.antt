@@ -1,6 +1,6 @@
 -- A stream of frames from an encoder over base stations to a decoder, made of the calls' own answers and buffers: what `encode` left in its
 -- buffer is lent to `drop_planes`, as often as there are base stations that thin it, and what the last of them left is lent to `decode`.
--- A frame is the octets that the call reports, from the buffer's first on. Assumes nothing.
+-- A frame is the octets that the call reports, from the buffer's first on.
 use mathlib.Core.List.{List, [], _∷_}
 use mathlib.Core.Path.{_≡_}
 use Prim.Native.Nat.{ℕ, _*_, _/_, _≤_}

@@ -1,5 +1,4 @@
 -- A run keeps its states in range and their core with the width: from reset, and over each sample.
--- Assumes nothing.
 use mathlib.Core.Path.{_≡_}
 use Prim.Native.Nat.{ℕ}
 use Rattle.quantizer.specs.Codeword.{Codeword}

@@ -1,5 +1,4 @@
 -- The nine pairs (x, y) of G.727, section 3: y core bits, from 2 to 4, and x bits in all, from y to 5.
--- Assumes nothing.
 use Prim.Native.Nat.{ℕ, _≤_}
 use Rattle.words.specs.Within.{Within}
 

@@ -1,5 +1,4 @@
 -- What a run keeps from sample to sample, so that each can be encoded and decoded: states in range whose core goes with the width.
--- Assumes nothing.
 use mathlib.Core.Path.{_≡_}
 use Prim.Native.Nat.{ℕ}
 use Rattle.quantizer.specs.Codeword.{Codeword}

@@ -1,5 +1,4 @@
 -- What holds of each row of a brace where its condition holds, holds of the brace.
--- Assumes nothing.
 use mathlib.Core.Bool.{Bool, true, false}
 use mathlib.Core.Path.{_≡_, refl}
 use Prim.Native.Nat.{ℕ, _≤_, _<_}

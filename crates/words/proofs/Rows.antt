@@ -1,5 +1,4 @@
 -- Every row of a table of tests holds exactly where their join does.
--- Assumes nothing.
 use mathlib.Core.Bool.{Bool, true, _&&_}
 use mathlib.Core.List.{List, [], _∷_}
 use mathlib.Core.Path.{_≡_, refl}

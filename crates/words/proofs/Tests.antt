@@ -1,6 +1,5 @@
 -- Tests that antt computes, over the numbers from one to another, each with the law that turns it into a fact; and the two sides of a
 -- conjunction.
--- Assumes nothing.
 use mathlib.Core.Path.{_≡_, refl, subst}
 use mathlib.Core.Bool.{Bool, true, false, _&&_}
 use Prim.Native.Nat.{ℕ, zero, suc, _+_, _≤_, _<_, zero-le}

@@ -1,5 +1,4 @@
 -- A table of tests, of which every row has to hold. The tests are joined from the first on, as code joins them with `&`.
--- Assumes nothing.
 use mathlib.Core.Bool.{Bool, true, _&&_}
 use mathlib.Core.List.{List, [], _∷_}
 

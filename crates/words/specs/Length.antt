@@ -1,5 +1,5 @@
 -- The exponent tables of LOG, FLOATA, FLOATB and FMULT, which are one table: its rows stand at the powers of two.
--- LOG's EXP is one less than the others', and all four have 0 in their lowest row. Assumes nothing.
+-- LOG's EXP is one less than the others', and all four have 0 in their lowest row.
 use Prim.Native.Nat.{ℕ, zero, suc, _+_, _*_, _^_, _≤_, _<_}
 use lib.Dec.{leb}
 use Rattle.words.specs.Notation.{pick}

@@ -1,6 +1,5 @@
 -- The notation of G.727, section 6.2, as every definition of this house writes it.
 -- A mask of ones, `& 65535`, is written `% 65536`: the same number for every operand.
--- Assumes nothing.
 use mathlib.Core.Bool.{Bool, true, false}
 use mathlib.Core.Path.{_≡_}
 use Prim.Native.Nat.{ℕ, _*_, _/_, _^_, max, _≤_}

@@ -1,5 +1,4 @@
 -- A number from one end of a range to the other, both ends in it.
--- Assumes nothing.
 use Prim.Native.Nat.{ℕ, _≤_}
 
 pub record Within (least greatest n : ℕ) : Type 0 where

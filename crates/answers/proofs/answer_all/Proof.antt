@@ -1,5 +1,4 @@
 -- `answers::answer_all` is safe and ends. The loop's invariant: the window keeps its length. The measure is what is left of the turns.
--- Assumes nothing.
 use mathlib.Core.Path.{_≡_}
 use Prim.Native.Nat.{_-_, _^_}
 use native.Mathlib.Omega.{arith}

@@ -1,5 +1,4 @@
 -- `checksum::of_octets` is safe and ends. The loop's invariant: the place is within the octets. The measure is what is left of the octets.
--- Assumes nothing.
 use Prim.Native.Nat.{_-_, _≤_}
 use native.Mathlib.Omega.{arith}
 use lib.ListN.{length}

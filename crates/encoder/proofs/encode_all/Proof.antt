@@ -1,5 +1,4 @@
 -- `encoder::encode_all` meets its contract.
--- Assumes nothing.
 use Prim.Native.Nat.{_-_}
 use native.Mathlib.Omega.{arith}
 use lib.ListN.{length}

@@ -1,5 +1,4 @@
 -- `example::send` is safe: what encode and drop report as written fits the buffer that they were lent, so that part of it can be taken.
--- Assumes nothing.
 use borrow.Author.Needs.{needs}
 use native.Mathlib.Omega.{arith}
 use lib.ListN.{length-take}

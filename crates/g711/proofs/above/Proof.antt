@@ -1,5 +1,4 @@
 -- `g711::above` meets its contract: its steps give SP+ at each of the 256 octets, under either law.
--- Assumes nothing.
 use mathlib.Core.Path.{_≡_}
 use mathlib.Core.Bool.{true, false}
 use lib.Dec.{eqb}

@@ -1,5 +1,4 @@
 -- `g711::below` meets its contract: SP- is SP+ with both signs changed, at each of the 256 octets, under either law.
--- Assumes nothing.
 use borrow.Author.Needs.{needs}
 use Rattle.g711.proofs.Steps.{below-is}
 use Rattle.g711.proofs.below.Statement.{statement}

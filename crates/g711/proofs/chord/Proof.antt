@@ -1,5 +1,4 @@
 -- `g711::chord` meets its contract: a magnitude from 16 on has 5 to 16 bits.
--- Assumes nothing.
 use native.Mathlib.Omega.{arith}
 use borrow.Author.Needs.{needs}
 use Rattle.g711.proofs.Segments.{range}

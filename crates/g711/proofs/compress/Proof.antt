@@ -1,5 +1,4 @@
 -- `g711::compress` meets its contract: LAW 0 is mu-law, and what is not 0 is A-law.
--- Assumes nothing.
 use borrow.Author.Needs.{needs}
 use borrow.Author.Tests.{eq-eqb, ne-eqb}
 use Rattle.g711.specs.Compress.{COMPRESS}

@@ -1,5 +1,4 @@
 -- `g711::compress_a` meets its contract, sign by sign: no level is above 127.
--- Assumes nothing.
 use mathlib.Core.Bool.{false}
 use Prim.Native.Nat.{_/_}
 use native.Mathlib.Omega.{arith}

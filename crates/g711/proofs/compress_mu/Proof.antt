@@ -1,5 +1,4 @@
 -- `g711::compress_mu` meets its contract, sign by sign: no level is above 127.
--- Assumes nothing.
 use mathlib.Core.Bool.{true}
 use native.Mathlib.Omega.{arith}
 use borrow.Author.Needs.{needs}

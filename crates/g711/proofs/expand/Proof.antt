@@ -1,5 +1,4 @@
 -- `g711::expand` meets its contract: its steps give EXPAND's level at each of the 256 octets, under either law.
--- Assumes nothing.
 use mathlib.Core.Path.{_≡_, _∙_}
 use mathlib.Core.Bool.{true, false}
 use native.Mathlib.Omega.{arith}

@@ -1,5 +1,4 @@
 -- `g711::level_a` meets its contract: the formula finds the level that A-law's decision values bound.
--- Assumes nothing.
 use mathlib.Core.Path.{_≡_, sym}
 use mathlib.Core.Bool.{false}
 use lib.Dec.{ltb}

@@ -1,5 +1,4 @@
 -- `g711::level_mu` meets its contract: the formula finds the level that mu-law's decision values bound.
--- Assumes nothing.
 use mathlib.Core.Path.{sym}
 use mathlib.Core.Bool.{true}
 use borrow.Author.Needs.{needs}

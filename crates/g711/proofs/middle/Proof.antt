@@ -1,5 +1,4 @@
 -- `g711::middle` meets its contract: the shift loses no bit, since a level has at most 13.
--- Assumes nothing.
 use native.Mathlib.Omega.{arith}
 use borrow.Author.Needs.{needs}
 use Rattle.g711.proofs.Outputs.{middle-high}

@@ -1,5 +1,4 @@
 -- `g711::next` meets its contract, row by row.
--- Assumes nothing.
 use borrow.Author.Needs.{needs}
 use borrow.Author.Tests.{eq-eqb, ne-eqb, le-leb, lt-leb}
 use Rattle.g711.proofs.next.Statement.{statement}

@@ -1,5 +1,4 @@
 -- `g711::output_a` meets its contract: the formula is A-law's table at each of its levels.
--- Assumes nothing.
 use borrow.Author.Needs.{needs}
 use borrow.Author.Tests.{lt-ltb, le-ltb}
 use Rattle.g711.proofs.Outputs.{output-is}

@@ -1,5 +1,4 @@
 -- `g711::output_mu` meets its contract: the formula is mu-law's table at each of its levels.
--- Assumes nothing.
 use native.Mathlib.Omega.{arith}
 use borrow.Author.Needs.{needs}
 use Rattle.g711.proofs.Outputs.{middle-low, output-is}

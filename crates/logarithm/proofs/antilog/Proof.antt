@@ -1,5 +1,4 @@
 -- `logarithm::antilog` meets its contract, by the sign of DQL.
--- Assumes nothing.
 use borrow.Author.Needs.{needs}
 use mathlib.Core.Path.{sym}
 use native.Mathlib.Omega.{arith}

@@ -1,5 +1,4 @@
 -- `logarithm::log` meets its contract; the exponent is below 16 since it is a word's number of bits.
--- Assumes nothing.
 use borrow.Author.Needs.{needs}
 use Prim.Native.Nat.{_≤_}
 use native.Mathlib.Omega.{arith}

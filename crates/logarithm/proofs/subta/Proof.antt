@@ -1,5 +1,4 @@
 -- `logarithm::subta` meets its contract: its two choices and the wrapping difference are those of SUBTA.
--- Assumes nothing.
 use borrow.Author.Needs.{needs}
 use Rattle.logarithm.specs.Difference.{SUBTA}
 use Rattle.logarithm.proofs.subta.Statement.{statement}

@@ -1,5 +1,4 @@
 -- `logarithm::subtb` meets its contract, which is its own text.
--- Assumes nothing.
 use borrow.Author.Needs.{needs}
 use mathlib.Core.Path.{refl}
 use Rattle.logarithm.specs.Logarithm.{SUBTB}

@@ -1,5 +1,4 @@
 -- `replies::reply_of` meets its contract.
--- Assumes nothing.
 use mathlib.Core.Path.{_≡_}
 use Prim.Native.Nat.{ℕ, suc, zero-le, _≤_}
 use native.Mathlib.Omega.{arith}

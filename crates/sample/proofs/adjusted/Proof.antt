@@ -1,5 +1,4 @@
 -- `sample::adjusted` meets its contract: what it calls and tests is what the definition says. The received width is a width, and so is a core.
--- Assumes nothing.
 use borrow.Author.Needs.{needs}
 use native.Mathlib.Omega.{arith}
 use mathlib.Core.Path.{_≡_, sym, _∙_}

@@ -1,5 +1,4 @@
 -- `sample::core_bits` meets its contract, which is its own text.
--- Assumes nothing.
 use borrow.Author.Needs.{needs}
 use mathlib.Core.Path.{refl}
 use Rattle.sample.specs.Pair.{Ic}

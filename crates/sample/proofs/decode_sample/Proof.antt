@@ -1,5 +1,4 @@
 -- `sample::decode_sample` meets its contract; the core bits of the received codeword move the state, the rest of it the output alone.
--- Assumes nothing.
 use borrow.Author.Needs.{needs}
 use Rattle.sample.specs.Decode.{SD, moved, decodeOf}
 use Rattle.sample.proofs.Cores.{core-codeword}

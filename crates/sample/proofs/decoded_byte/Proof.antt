@@ -1,5 +1,4 @@
 -- `sample::decoded_byte` meets its contract: what it calls and tests is what the definition says.
--- Assumes nothing.
 use borrow.Author.Needs.{needs}
 use Rattle.engine.proofs.Estimates.{y-range, se-word, y-is, se-is}
 use Rattle.sample.specs.Decode.{SP}

@@ -1,5 +1,4 @@
 -- `sample::differs` meets its contract: what it calls and tests is what the definition says.
--- Assumes nothing.
 use borrow.Author.Tests.{eq-eqb, ne-eqb}
 use Rattle.sample.proofs.differs.Statement.{statement}
 use Rattle.sample.proofs.differs.Tie as tie

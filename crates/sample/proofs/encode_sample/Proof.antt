@@ -1,5 +1,4 @@
 -- `sample::encode_sample` meets its contract; the codeword's core bits are a core codeword, since it is below 2 ^ width.
--- Assumes nothing.
 use borrow.Author.Needs.{needs}
 use mathlib.Core.Path.{_≡_}
 use Rattle.sample.specs.Encode.{I, encodeOf}

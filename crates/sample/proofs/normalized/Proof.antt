@@ -1,5 +1,4 @@
 -- `sample::normalized` meets its contract: what it calls and tests is what the definition says.
--- Assumes nothing.
 use borrow.Author.Needs.{needs}
 use Rattle.g711.proofs.Extent.{expand-lt}
 use Rattle.engine.proofs.Estimates.{y-range, se-word, y-is, se-is}

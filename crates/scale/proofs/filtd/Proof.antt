@@ -1,5 +1,4 @@
 -- `scale::filtd` meets its contract: its choices are those of the sub-block.
--- Assumes nothing.
 use borrow.Author.Needs.{needs}
 use Rattle.scale.specs.Scale.{FILTD}
 use Rattle.scale.proofs.filtd.Statement.{statement}

@@ -1,5 +1,4 @@
 -- `scale::filte` meets its contract: its choices are those of the sub-block.
--- Assumes nothing.
 use borrow.Author.Needs.{needs}
 use Rattle.scale.specs.Scale.{FILTE}
 use Rattle.scale.proofs.filte.Statement.{statement}

@@ -1,5 +1,4 @@
 -- `scale::limb` meets its contract: its choices are those of the sub-block.
--- Assumes nothing.
 use borrow.Author.Needs.{needs}
 use Rattle.scale.specs.Scale.{LIMB}
 use Rattle.scale.proofs.limb.Statement.{statement}

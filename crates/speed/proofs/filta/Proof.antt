@@ -1,5 +1,4 @@
 -- `speed::filta` meets its contract: its choices are those of the sub-block.
--- Assumes nothing.
 use borrow.Author.Needs.{needs}
 use Rattle.speed.specs.Speed.{FILTA}
 use Rattle.speed.proofs.filta.Statement.{statement}

@@ -1,5 +1,4 @@
 -- `speed::filtb` meets its contract: its choices are those of the sub-block.
--- Assumes nothing.
 use borrow.Author.Needs.{needs}
 use Rattle.speed.specs.Speed.{FILTB}
 use Rattle.speed.proofs.filtb.Statement.{statement}

@@ -1,5 +1,4 @@
 -- `speed::filtc` meets its contract: its choices are those of the sub-block.
--- Assumes nothing.
 use borrow.Author.Needs.{needs}
 use Rattle.speed.specs.Speed.{FILTC}
 use Rattle.speed.proofs.filtc.Statement.{statement}

@@ -1,5 +1,4 @@
 -- `speed::lima` meets its contract: its choices are those of the sub-block.
--- Assumes nothing.
 use borrow.Author.Needs.{needs}
 use Rattle.speed.specs.Speed.{LIMA}
 use Rattle.speed.proofs.lima.Statement.{statement}

@@ -1,5 +1,4 @@
 -- `speed::subtc` meets its contract: its choices are those of the sub-block.
--- Assumes nothing.
 use borrow.Author.Needs.{needs}
 use Rattle.speed.specs.Speed.{SUBTC}
 use Rattle.speed.proofs.subtc.Statement.{statement}

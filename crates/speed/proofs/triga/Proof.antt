@@ -1,5 +1,4 @@
 -- `speed::triga` meets its contract: its choices are those of the sub-block.
--- Assumes nothing.
 use borrow.Author.Needs.{needs}
 use Rattle.speed.specs.Speed.{TRIGA}
 use Rattle.speed.proofs.triga.Statement.{statement}

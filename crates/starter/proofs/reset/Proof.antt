@@ -1,5 +1,4 @@
 -- `starter::reset` meets its contract.
--- Assumes nothing.
 use borrow.Author.Needs.{needs}
 use mathlib.Core.Path.{refl}
 use Rattle.starter.specs.Reset.{resetNumber, resetState}

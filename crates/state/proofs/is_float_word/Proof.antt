@@ -1,5 +1,4 @@
 -- `state::is_float_word` meets its contract, test by test.
--- Assumes nothing.
 use mathlib.Core.Path.{refl}
 use Rattle.words.specs.Every.{joined, every}
 use Rattle.state.specs.Range.{isFloatWord}

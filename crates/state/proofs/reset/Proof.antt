@@ -1,5 +1,4 @@
 -- `state::reset` meets its contract, field by field.
--- Assumes nothing.
 use mathlib.Core.Path.{refl}
 use Rattle.state.specs.Reset.{resetOf}
 use Rattle.state.proofs.reset.Statement.{statement}

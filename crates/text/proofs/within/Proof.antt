@@ -1,5 +1,4 @@
 -- `text::within` meets its contract.
--- Assumes nothing.
 use native.Mathlib.Omega.{arith}
 use Rattle.io.proofs.Counting.{counts}
 use Rattle.text.proofs.within.Statement.{statement}

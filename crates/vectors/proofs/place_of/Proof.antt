@@ -1,5 +1,4 @@
 -- `vectors::place_of` is safe and ends. The loop's invariant: the place is at most 189. The measure is what is left of the places.
--- Assumes nothing.
 use Prim.Native.Nat.{_-_, _≤_}
 use native.Mathlib.Omega.{arith}
 use Rattle.vectors.proofs.place_of.Statement.{statement}

@@ -1,5 +1,4 @@
 -- `vectors::write_all_runs` is safe and ends. The loop's invariant: the place is at most 189. The measure is what is left of the places.
--- Assumes nothing.
 use Prim.Native.Nat.{_-_, _≤_}
 use native.Mathlib.Omega.{arith}
 use Rattle.vectors.proofs.write_all_runs.Statement.{statement}

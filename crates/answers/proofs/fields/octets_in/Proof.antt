@@ -1,5 +1,4 @@
 -- `answers::fields::octets_in` meets its contract. The loop's invariant: the buffer keeps its length. The measure is what is left to put.
--- Assumes nothing.
 use mathlib.Core.Path.{_≡_}
 use Prim.Native.Nat.{_-_, _≤_}
 use native.Mathlib.Omega.{arith}

@@ -1,5 +1,4 @@
 -- `answers::input::end_of_line` meets its contract: the line ends within what is held, and that within the window.
--- Assumes nothing.
 use borrow.Author.Needs.{needs}
 use native.Mathlib.Omega.{arith}
 use Rattle.io.proofs.Counting.{counts}

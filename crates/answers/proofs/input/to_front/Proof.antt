@@ -1,5 +1,4 @@
 -- `answers::input::to_front` meets its contract. The loop's invariant: the window keeps its length. The measure is what is left to move.
--- Assumes nothing.
 use mathlib.Core.Path.{_≡_}
 use Prim.Native.Nat.{_-_, _≤_}
 use native.Mathlib.Omega.{arith}

@@ -1,5 +1,4 @@
 -- `answers::input::window` meets its contract. Cited, the law spares the check the counting of 131,073 elements.
--- Assumes nothing.
 use Prim.Native.Nat.{ℕ}
 use mathlib.Core.Path.{sym}
 use lib.ListN.{length-replicate}

@@ -1,5 +1,4 @@
 -- `answers::states::is_state` is safe and ends. Nothing has to hold from turn to turn. The measure is what is left of the numbers.
--- Assumes nothing.
 use Prim.Native.Nat.{_-_}
 use native.Mathlib.Omega.{arith}
 use Rattle.answers.proofs.states.is_state.Statement.{statement}

@@ -1,5 +1,4 @@
 -- `engine::adaptation::next_scales` meets its contract: what it calls is what the definition says, group by group.
--- Assumes nothing.
 use borrow.Author.Needs.{needs}
 use Rattle.scale.proofs.Range.{filtd-word}
 use Rattle.engine.specs.Groups.{scalesOf}

@@ -1,5 +1,4 @@
 -- `engine::adaptation::scale_factor` meets its contract: what it calls is what the definition says, group by group.
--- Assumes nothing.
 use borrow.Author.Needs.{needs}
 use Prim.Native.Nat.{_≤_}
 use native.Mathlib.Omega.{arith}

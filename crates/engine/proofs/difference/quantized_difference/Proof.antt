@@ -1,5 +1,4 @@
 -- `engine::difference::quantized_difference` meets its contract; a codeword's level and Y keep ANTILOG's exponent below 15.
--- Assumes nothing.
 use borrow.Author.Needs.{needs}
 use Prim.Native.Nat.{_+_, _%_, _≤_, _<_}
 use native.Mathlib.Omega.{arith}

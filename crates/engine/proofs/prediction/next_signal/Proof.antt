@@ -1,5 +1,4 @@
 -- `engine::prediction::next_signal` meets its contract: what it calls is what the definition says.
--- Assumes nothing.
 use borrow.Author.Needs.{needs}
 use Rattle.engine.proofs.prediction.next_signal.Statement.{statement}
 use Rattle.engine.proofs.prediction.next_signal.Tie as tie

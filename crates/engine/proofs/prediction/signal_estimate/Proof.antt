@@ -1,5 +1,4 @@
 -- `engine::prediction::signal_estimate` meets its contract: what it calls is what the definition says, group by group.
--- Assumes nothing.
 use borrow.Author.Needs.{needs}
 use Rattle.engine.specs.Estimate.{predicted, WB}
 use Rattle.engine.proofs.prediction.signal_estimate.Statement.{statement}

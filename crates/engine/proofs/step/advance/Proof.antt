@@ -1,5 +1,4 @@
 -- `engine::step::advance` meets its contract, field by field (proofs/Assembly.antt). Its estimate is the state's own, by what it requires.
--- Assumes nothing.
 use borrow.Author.Needs.{needs}
 use Rattle.quantizer.proofs.Halves.{codeword-of-core}
 use Rattle.quantizer.proofs.Ranges.{functf-small}

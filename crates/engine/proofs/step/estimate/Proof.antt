@@ -1,5 +1,4 @@
 -- `engine::step::estimate` meets its contract: what it calls is what the definition says, group by group.
--- Assumes nothing.
 use borrow.Author.Needs.{needs}
 use Rattle.engine.specs.Estimate.{SE, SEZ, estimateOf}
 use Rattle.engine.proofs.step.estimate.Statement.{statement}

@@ -1,5 +1,4 @@
 -- `frame::format::bad_count` meets its contract, which is its own text.
--- Assumes nothing.
 use mathlib.Core.Path.{refl}
 use Rattle.frame.specs.Format.{badCount}
 use Rattle.frame.proofs.format.bad_count.Statement.{statement}

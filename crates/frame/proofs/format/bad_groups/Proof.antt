@@ -1,5 +1,4 @@
 -- `frame::format::bad_groups` meets its contract, which is its own text.
--- Assumes nothing.
 use mathlib.Core.Path.{refl}
 use Rattle.frame.specs.Format.{badGroups}
 use Rattle.frame.proofs.format.bad_groups.Statement.{statement}

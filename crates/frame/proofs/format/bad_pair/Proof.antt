@@ -1,5 +1,4 @@
 -- `frame::format::bad_pair` meets its contract, which is its own text.
--- Assumes nothing.
 use mathlib.Core.Path.{refl}
 use Rattle.frame.specs.Format.{badPair}
 use Rattle.frame.proofs.format.bad_pair.Statement.{statement}

@@ -1,5 +1,4 @@
 -- `frame::format::core_of` meets its contract, which is its own text.
--- Assumes nothing.
 use mathlib.Core.Path.{refl}
 use Rattle.frame.specs.Format.{coreOf}
 use Rattle.frame.proofs.format.core_of.Statement.{statement}

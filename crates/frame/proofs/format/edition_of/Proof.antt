@@ -1,5 +1,4 @@
 -- `frame::format::edition_of` meets its contract, which is its own text.
--- Assumes nothing.
 use mathlib.Core.Path.{refl}
 use Rattle.frame.specs.Format.{editionOf}
 use Rattle.frame.proofs.format.edition_of.Statement.{statement}

@@ -1,5 +1,4 @@
 -- `frame::format::frame_length` meets its contract, which is its own text: x has 3 bits and g has 8.
--- Assumes nothing.
 use mathlib.Core.Path.{refl}
 use Prim.Native.Nat.{_*_, _≤_}
 use native.Mathlib.Nat.{mul-le-mul}

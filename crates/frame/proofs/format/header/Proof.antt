@@ -1,5 +1,4 @@
 -- `frame::format::header` meets its contract, which is its own text.
--- Assumes nothing.
 use borrow.Author.Needs.{needs}
 use mathlib.Core.Path.{refl}
 use Rattle.frame.specs.Format.{head}

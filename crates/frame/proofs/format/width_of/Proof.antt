@@ -1,5 +1,4 @@
 -- `frame::format::width_of` meets its contract, which is its own text.
--- Assumes nothing.
 use mathlib.Core.Path.{refl}
 use Rattle.frame.specs.Format.{widthOf}
 use Rattle.frame.proofs.format.width_of.Statement.{statement}

@@ -1,5 +1,4 @@
 -- `frame::format::wrong_with` meets its contract: each return has the rows before it passed.
--- Assumes nothing.
 use borrow.Author.Needs.{needs}
 use mathlib.Core.Path.{_≡_, sym, _∙_}
 use native.Mathlib.Omega.{arith}

@@ -1,5 +1,4 @@
 -- `frame::planes::codeword_at` meets its contract: the loop keeps what is left to collect.
--- Assumes nothing.
 use mathlib.Core.Path.{_≡_, refl}
 use Prim.Native.Nat.{_-_, _%_}
 use native.Mathlib.Omega.{arith}

@@ -1,5 +1,4 @@
 -- `frame::planes::octet` meets its contract: the loop keeps what is left to gather.
--- Assumes nothing.
 use Prim.Native.Nat.{_-_}
 use native.Mathlib.Omega.{arith}
 use Rattle.frame.specs.Format.{group}

@@ -1,5 +1,4 @@
 -- `frame::planes::shift_in` meets its contract: a shift, a mask and an or are a sum where the bits do not meet.
--- Assumes nothing.
 use borrow.Author.Needs.{needs}
 use Rattle.frame.proofs.Gathering.{shifted}
 use Rattle.frame.proofs.planes.shift_in.Statement.{statement}

@@ -1,5 +1,4 @@
 -- `frame::planes::write_plane` meets its contract: the buffer is filled from the front with the plane's octets.
--- Assumes nothing.
 use mathlib.Core.Path.{sym, _∙_}
 use Prim.Native.Nat.{_-_}
 use native.Mathlib.Omega.{arith}

@@ -1,5 +1,4 @@
 -- `frame::planes::write_planes` meets its contract: the planes are laid one behind the other, each in the rest of the buffer.
--- Assumes nothing.
 use native.Mathlib.Omega.{arith}
 use Rattle.frame.proofs.Laying.{Laying, laying-none, laying-fits, laying-more, laying-done}
 use lib.ListN.{length-drop}

@@ -1,5 +1,4 @@
 -- `frame::whole::thin_frame` meets its contract: the first planes are copied, and the width in the header is stored anew.
--- Assumes nothing.
 use borrow.Author.Needs.{needs}
 use mathlib.Core.Path.{_≡_, sym, _∙_}
 use Prim.Native.Nat.{_+_, _*_, _≤_}

@@ -1,5 +1,4 @@
 -- `frame::whole::write_frame` meets its contract: the planes behind the header's two octets.
--- Assumes nothing.
 use borrow.Author.Needs.{needs}
 use mathlib.Core.Path.{_∙_}
 use native.Mathlib.Omega.{arith}

@@ -1,5 +1,4 @@
 -- `parchfennel::stream::end_of` is safe: x has 3 bits and g has 8.
--- Assumes nothing.
 use borrow.Author.Needs.{needs}
 use native.Mathlib.Omega.{arith}
 use Rattle.frame.proofs.Fields.{width-bits}

@@ -1,5 +1,4 @@
 -- `parchfennel::stream::read_part` meets its contract. The loop's invariant: the buffer keeps its length. The measure is what is left to read.
--- Assumes nothing.
 use mathlib.Core.Path.{_≡_}
 use Prim.Native.Nat.{_-_, _≤_}
 use native.Mathlib.Omega.{arith}

@@ -1,5 +1,4 @@
 -- `parchfennel::words::read_number` is safe and ends. The loop's invariant: the place is within the word. The measure is what is left of the word.
--- Assumes nothing.
 use Prim.Native.Nat.{_-_, _≤_}
 use native.Mathlib.Omega.{arith}
 use lib.ListN.{length}

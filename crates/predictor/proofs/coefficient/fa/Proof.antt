@@ -1,5 +1,4 @@
 -- `predictor::coefficient::fa` meets its contract: f(a1) is a 17-bit word, so that its negative can be formed.
--- Assumes nothing.
 use borrow.Author.Needs.{needs}
 use native.Mathlib.Nat.{le-of-lt}
 use Rattle.predictor.specs.Coefficient.{FA}

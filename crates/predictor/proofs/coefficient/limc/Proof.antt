@@ -1,5 +1,4 @@
 -- `predictor::coefficient::limc` meets its contract: what it calls and chooses is what the definition says.
--- Assumes nothing.
 use borrow.Author.Needs.{needs}
 use Rattle.predictor.specs.Coefficient.{LIMC}
 use Rattle.predictor.proofs.coefficient.limc.Statement.{statement}

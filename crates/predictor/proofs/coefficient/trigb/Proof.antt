@@ -1,5 +1,4 @@
 -- `predictor::coefficient::trigb` meets its contract: what it calls and chooses is what the definition says.
--- Assumes nothing.
 use borrow.Author.Needs.{needs}
 use Rattle.predictor.specs.Coefficient.{TRIGB}
 use Rattle.predictor.proofs.coefficient.trigb.Statement.{statement}

@@ -1,5 +1,4 @@
 -- `predictor::coefficient::uga2` meets its contract: what it calls and chooses is what the definition says.
--- Assumes nothing.
 use borrow.Author.Needs.{needs}
 use Rattle.predictor.specs.Coefficient.{UGA2}
 use Rattle.predictor.proofs.coefficient.uga2.Statement.{statement}

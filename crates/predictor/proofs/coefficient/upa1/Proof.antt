@@ -1,5 +1,4 @@
 -- `predictor::coefficient::upa1` meets its contract: what it calls and chooses is what the definition says.
--- Assumes nothing.
 use borrow.Author.Needs.{needs}
 use Rattle.predictor.specs.Coefficient.{UPA1}
 use Rattle.predictor.proofs.coefficient.upa1.Statement.{statement}

@@ -1,5 +1,4 @@
 -- `predictor::coefficient::upa2` meets its contract: what it calls and chooses is what the definition says.
--- Assumes nothing.
 use borrow.Author.Needs.{needs}
 use Prim.Native.Nat.{_<_}
 use native.Mathlib.Omega.{arith}

@@ -1,5 +1,4 @@
 -- `predictor::estimate::accum` meets its contract: what it calls and chooses is what the definition says.
--- Assumes nothing.
 use borrow.Author.Needs.{needs}
 use Rattle.predictor.specs.Estimate.{ACCUM}
 use Rattle.predictor.proofs.estimate.accum.Statement.{statement}

@@ -1,5 +1,4 @@
 -- `predictor::estimate::fmult` meets its contract. The product of two mantissas is at most 63 * 63, so it fits.
--- Assumes nothing.
 use borrow.Author.Needs.{needs}
 use Prim.Native.Nat.{_*_, _%_, _≤_}
 use native.Mathlib.Nat.{mul-le-mul}

@@ -1,5 +1,4 @@
 -- `predictor::estimate::product_magnitude` meets its contract, on either side of exponent 26.
--- Assumes nothing.
 use borrow.Author.Needs.{needs}
 use mathlib.Core.Path.{_≡_, sym, _∙_}
 use Prim.Native.Nat.{ℕ, _-_, _*_, _%_, _^_, _<_}

@@ -1,5 +1,4 @@
 -- `predictor::float::float_of` meets its contract: the mantissa that it chooses is MANT, which has six bits.
--- Assumes nothing.
 use borrow.Author.Needs.{needs}
 use mathlib.Core.Path.{_≡_}
 use Prim.Native.Nat.{_≤_}

@@ -1,5 +1,4 @@
 -- `predictor::reconstruct::floatb` meets its contract: what it calls and chooses is what the definition says.
--- Assumes nothing.
 use borrow.Author.Needs.{needs}
 use mathlib.Core.Path.{_≡_}
 use Prim.Native.Nat.{_-_, _%_}

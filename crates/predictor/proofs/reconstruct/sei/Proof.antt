@@ -1,5 +1,4 @@
 -- `predictor::reconstruct::sei` meets its contract: what it calls and chooses is what the definition says.
--- Assumes nothing.
 use borrow.Author.Needs.{needs}
 use Rattle.predictor.specs.Reconstruct.{SEI}
 use Rattle.predictor.proofs.reconstruct.sei.Statement.{statement}

@@ -1,5 +1,4 @@
 -- `predictor::reconstruct::xor` meets its contract: what it calls and chooses is what the definition says.
--- Assumes nothing.
 use mathlib.Core.Path.{refl}
 use Rattle.predictor.specs.Reconstruct.{XOR}
 use Rattle.predictor.proofs.reconstruct.xor.Statement.{statement}

@@ -1,5 +1,4 @@
 -- `predictor::tone::tone` meets its contract: what it calls and chooses is what the definition says.
--- Assumes nothing.
 use borrow.Author.Needs.{needs}
 use Rattle.predictor.specs.Tone.{TONE}
 use Rattle.predictor.proofs.tone.tone.Statement.{statement}

@@ -1,5 +1,4 @@
 -- `predictor::tone::trans` meets its contract: the threshold's shift loses nothing in 32 bits.
--- Assumes nothing.
 use borrow.Author.Needs.{needs}
 use Rattle.predictor.specs.Tone.{TRANS}
 use Prim.Native.Nat.{_/_, _%_}

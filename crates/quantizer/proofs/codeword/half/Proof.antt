@@ -1,5 +1,4 @@
 -- `quantizer::codeword::half` meets its contract: the shift loses nothing.
--- Assumes nothing.
 use borrow.Author.Needs.{needs}
 use Rattle.quantizer.proofs.Halves.{halves}
 use Rattle.quantizer.proofs.codeword.half.Statement.{statement}

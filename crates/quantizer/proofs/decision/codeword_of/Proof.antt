@@ -1,5 +1,4 @@
 -- `quantizer::decision::codeword_of` meets its contract, by the sign.
--- Assumes nothing.
 use borrow.Author.Needs.{needs}
 use native.Mathlib.Omega.{arith}
 use borrow.Author.Tests.{eq-eqb, ne-eqb}

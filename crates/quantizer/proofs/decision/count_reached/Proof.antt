@@ -1,5 +1,4 @@
 -- `quantizer::decision::count_reached` meets its contract. The loop's invariant: what was counted, and what is left to count, make the whole.
--- Assumes nothing.
 use borrow.Author.Needs.{needs}
 use mathlib.Core.Path.{_≡_}
 use mathlib.Core.Logic.{⊎-elim}

@@ -1,5 +1,4 @@
 -- `quantizer::decision::quan` meets its contract: each array is the thresholds of its width.
--- Assumes nothing.
 use borrow.Author.Needs.{needs}
 use mathlib.Core.Path.{refl, _∙_}
 use Rattle.lists.specs.Tabulate.{entries}

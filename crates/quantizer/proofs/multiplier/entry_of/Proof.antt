@@ -1,5 +1,4 @@
 -- `quantizer::multiplier::entry_of` meets its contract: the magnitude is within the array of the core.
--- Assumes nothing.
 use borrow.Author.Needs.{needs}
 use native.Mathlib.Omega.{arith}
 use borrow.Author.Tests.{eq-eqb, ne-eqb}

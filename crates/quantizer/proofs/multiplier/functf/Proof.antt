@@ -1,5 +1,4 @@
 -- `quantizer::multiplier::functf` meets its contract: the arrays are the definition's lists.
--- Assumes nothing.
 use borrow.Author.Needs.{needs}
 use Rattle.quantizer.specs.Multiplier.{speeds, FUNCTF}
 use Rattle.quantizer.proofs.multiplier.functf.Statement.{statement}

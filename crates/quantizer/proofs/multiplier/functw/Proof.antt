@@ -1,5 +1,4 @@
 -- `quantizer::multiplier::functw` meets its contract: the arrays are the definition's lists.
--- Assumes nothing.
 use borrow.Author.Needs.{needs}
 use Rattle.quantizer.specs.Multiplier.{multipliers, FUNCTW}
 use Rattle.quantizer.proofs.multiplier.functw.Statement.{statement}

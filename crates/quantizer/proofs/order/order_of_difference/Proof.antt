@@ -1,5 +1,4 @@
 -- `quantizer::order::order_of_difference` meets its contract: ID is the place of the codeword.
--- Assumes nothing.
 use borrow.Author.Needs.{needs}
 use mathlib.Core.Path.{sym, ap, _∙_}
 use Rattle.quantizer.specs.Sync.{IM}

@@ -1,5 +1,4 @@
 -- `quantizer::output::dqln_of` meets its contract: each array is its table's column DQLN, by magnitude.
--- Assumes nothing.
 use borrow.Author.Needs.{needs}
 use native.Mathlib.Omega.{arith}
 use Rattle.lists.specs.Tabulate.{entries, tabulate}

@@ -1,5 +1,4 @@
 -- `quantizer::output::reconst` meets its contract, field by field.
--- Assumes nothing.
 use borrow.Author.Needs.{needs}
 use Prim.Native.Nat.{_-_}
 use native.Mathlib.Omega.{arith}

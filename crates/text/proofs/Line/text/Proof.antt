@@ -1,5 +1,4 @@
 -- `text::Line::text` meets its contract. The measure is what is left of the words.
--- Assumes nothing.
 use Prim.Native.Nat.{_-_, _≤_}
 use native.Mathlib.Omega.{arith}
 use lib.ListN.{length}

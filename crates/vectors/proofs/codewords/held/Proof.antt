@@ -1,5 +1,4 @@
 -- `vectors::codewords::held` meets its contract: half a width's codewords, less one, is one of them.
--- Assumes nothing.
 use borrow.Author.Needs.{needs}
 use native.Mathlib.Omega.{arith}
 use Rattle.quantizer.proofs.Halves.{halves}

@@ -1,5 +1,4 @@
 -- `vectors::codewords::input_at` meets its contract: a magnitude is below half of the codewords, and so is its complement below all.
--- Assumes nothing.
 use borrow.Author.Needs.{needs}
 use native.Mathlib.Omega.{arith}
 use Rattle.quantizer.proofs.Halves.{halves}

@@ -1,5 +1,4 @@
 -- `vectors::drive::decode_all` is safe and ends. The loop's invariant: both states are in range. The measure is what is left of the count.
--- Assumes nothing.
 use Prim.Native.Nat.{_-_, _≤_}
 use native.Mathlib.Omega.{arith}
 use Rattle.vectors.specs.Ready.{Ready}

@@ -1,5 +1,4 @@
 -- `vectors::drive::encode_all` meets its contract. The loop's invariant: both states are in range. The measure is what is left of the octets.
--- Assumes nothing.
 use Prim.Native.Nat.{_-_, _≤_}
 use native.Mathlib.Omega.{arith}
 use lib.ListN.{length}

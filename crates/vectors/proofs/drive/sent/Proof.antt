@@ -1,5 +1,4 @@
 -- `vectors::drive::sent` meets its contract, by the law of an encoded sample.
--- Assumes nothing.
 use borrow.Author.Needs.{needs}
 use Rattle.vectors.proofs.Keeps.{encode-sent}
 use Rattle.vectors.proofs.drive.sent.Statement.{statement}

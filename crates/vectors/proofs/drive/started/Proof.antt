@@ -1,5 +1,4 @@
 -- `vectors::drive::started` meets its contract: the reset state is in range, and homing keeps both states there.
--- Assumes nothing.
 use borrow.Author.Needs.{needs}
 use Rattle.vectors.specs.Ready.{Kept, Ready}
 use Rattle.vectors.proofs.Keeps.{reset-kept, ready-of}

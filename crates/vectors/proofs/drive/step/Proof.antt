@@ -1,5 +1,4 @@
 -- `vectors::drive::step` meets its contract: both states stay in range.
--- Assumes nothing.
 use borrow.Author.Needs.{needs}
 use Rattle.vectors.proofs.Keeps.{decode-kept}
 use Rattle.vectors.proofs.drive.step.Statement.{statement}

@@ -1,6 +1,5 @@
 -- `vectors::inputs::load_all` is safe and ends. The loop's invariant: the file is one of the 8 or their end, and the buffer keeps its
 -- length. The measure is what is left of the files.
--- Assumes nothing.
 use mathlib.Core.Path.{_≡_}
 use Prim.Native.Nat.{_-_, _≤_}
 use native.Mathlib.Omega.{arith}

@@ -1,5 +1,4 @@
 -- `vectors::inputs::part_of` meets its contract: the starts rise, and the last is the end.
--- Assumes nothing.
 use borrow.Author.Needs.{needs}
 use mathlib.Core.List.{List, [], _∷_}
 use Prim.Native.Nat.{ℕ, _+_}

@@ -1,5 +1,4 @@
 -- `vectors::magnitudes::magnitude_at` meets its contract, width by width: a magnitude of width 4 is at most 7.
--- Assumes nothing.
 use borrow.Author.Needs.{needs}
 use mathlib.Core.Path.{_≡_}
 use native.Mathlib.Omega.{arith}

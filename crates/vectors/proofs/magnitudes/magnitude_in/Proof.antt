@@ -1,5 +1,4 @@
 -- `vectors::magnitudes::magnitude_in` meets its contract: no magnitude of the table is above 7.
--- Assumes nothing.
 use borrow.Author.Needs.{needs}
 use mathlib.Core.List.{List, [], _∷_}
 use Prim.Native.Nat.{ℕ, _/_, _%_}

@@ -1,5 +1,4 @@
 -- `vectors::magnitudes::spot_of` meets its contract. The loop's invariant: the row is one of the 27. The measure is the rows left.
--- Assumes nothing.
 use Prim.Native.Nat.{_-_, _<_}
 use native.Mathlib.Omega.{arith}
 use Rattle.vectors.proofs.magnitudes.spot_of.Statement.{statement}

@@ -1,5 +1,4 @@
 -- `vectors::runs::paired` meets its contract: each entry of the table is a pair.
--- Assumes nothing.
 use borrow.Author.Needs.{needs}
 use mathlib.Core.List.{List, [], _∷_}
 use Prim.Native.Nat.{ℕ, _/_, _%_}

@@ -1,5 +1,4 @@
 -- `words::bits::bit_length` meets its contract: each half of the search spans m, and one number alone does.
--- Assumes nothing.
 use borrow.Author.Needs.{needs}
 use Rattle.words.proofs.Length.{length-is}
 use Rattle.words.proofs.bits.bit_length.Statement.{statement}
