@@ -7,7 +7,7 @@ use native.Mathlib.Omega.{arith}
 use lib.ListN.{getD, drop}
 use lib.Pow.{pow-mono}
 use lib.Seq.{drop-drop, getD-drop}
-use Rattle.frame.specs.Format.{group}
+use Rattle.frame.specs.Header.{group}
 use Rattle.frame.specs.Planes.{bit}
 use Rattle.frame.specs.Read.{collect, codewordAt}
 use Rattle.frame.specs.Shifted.{Shifted}

@@ -1,11 +1,12 @@
--- The worked examples of 01, "The radio frame": eight codewords at (5, 2), their frame, and the frame thinned to a width.
+-- The worked examples of docs/RULES.md, "The radio frame": eight codewords at (5, 2), their frame, and the frame thinned to a width.
 use mathlib.Core.Path.{_≡_, refl}
 use mathlib.Core.List.{List, [], _∷_, map}
 use Prim.Native.Nat.{ℕ}
 use Rattle.lists.specs.Tabulate.{entries, tabulate}
-use Rattle.frame.specs.Format.{head, widthOf, coreOf}
+use Rattle.frame.specs.declared.header.Header.{Header}
+use Rattle.frame.specs.Header.{edition, headerLength, head, headerOctets, headerOf}
 use Rattle.frame.specs.Planes.{bit, gather, octetAt, plane, planes, frameOf}
-use Rattle.frame.specs.Read.{collect, codewordAt, codewords, frameWidth, frameCore, frameGroups, body, received, thinned}
+use Rattle.frame.specs.Read.{collect, codewordAt, codewords, body, received, narrowed, thinned}
 
 pub record Example : Type 0 where
   pub codewords : List ℕ
@@ -30,10 +31,14 @@ examples =
     }
     ∷ []
 
+-- a header of one group at (5, 2)
+abbrev pub five-two : Header
+five-two = record { edition = edition; width = 5; core = 2; groups = 1 }
+
 -- what the definitions read from an example's frame, make of its codewords, and leave of its frame
 abbrev pub made : Example → Example
-made e = record { codewords = received (e .frame); frame = frameOf 5 2 (e .codewords); width = e .width; thin = thinned (e .width) (e .frame) }
+made e = record { codewords = received (e .frame); frame = frameOf five-two (e .codewords); width = e .width; thin = thinned (e .width) (e .frame) }
 
 pub examples-hold : map made examples ≡ examples
-unfolding entries tabulate head widthOf coreOf bit gather octetAt plane planes frameOf collect codewordAt codewords frameWidth frameCore frameGroups body received thinned
+unfolding entries tabulate headerLength headerOctets headerOf bit gather octetAt plane planes frameOf collect codewordAt codewords body received thinned
 examples-hold = refl

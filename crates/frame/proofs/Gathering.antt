@@ -8,7 +8,7 @@ use lib.Bits.{bitAnd, bitOr, and-mask, or-shifted}
 use lib.ListN.{getD, drop}
 use lib.Pow.{pow-mono}
 use lib.Seq.{drop-drop, getD-drop}
-use Rattle.frame.specs.Format.{group}
+use Rattle.frame.specs.Header.{group}
 use Rattle.frame.specs.Planes.{bit, gather}
 use Rattle.frame.specs.Shifted.{Shifted}
 

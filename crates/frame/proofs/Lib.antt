@@ -1,14 +1,12 @@
 pub mod Gathering
 pub mod Collecting
+pub mod Headers
 pub mod Sizes
 pub mod Laying
-pub mod Headers
 pub mod Sounds
 pub mod Codewords
-pub mod Fields
 pub mod Bits
 pub mod Return
-pub mod Thinning
 pub mod Kept
-pub mod Received
+pub mod Thinning
 pub mod Examples

@@ -1,4 +1,4 @@
--- What was written is read back: the codewords of a frame's planes are those that the planes were made of (01, "The radio frame").
+-- What was written is read back: the codewords of a frame's planes are those that the planes were made of (docs/RULES.md, "The radio frame").
 use mathlib.Core.Path.{_≡_, _∙_}
 use mathlib.Core.List.{List}
 use Prim.Native.Nat.{ℕ, zero, suc, _+_, _-_, _*_, _/_, _%_, _^_, _<_}
@@ -8,11 +8,12 @@ use lib.ListN.{length, getD, drop, List·getD-append}
 use lib.Seq.{drop-at, getD-drop}
 use Rattle.words.specs.Notation.{_>>_}
 use Rattle.lists.proofs.Tables.{tabulate-same, tabulate-list}
-use Rattle.frame.specs.Format.{group}
+use Rattle.frame.specs.declared.header.Header.{Header}
+use Rattle.frame.specs.Header.{group, sampleCount}
 use Rattle.frame.specs.Planes.{bit, gather, plane, planes, frameOf}
 use Rattle.frame.specs.Read.{collect, codewordAt, codewords, received}
 use Rattle.frame.proofs.Bits.{bit-gone, bit-more}
-use Rattle.frame.proofs.Fields.{written-fields}
+use Rattle.frame.proofs.Headers.{Fields, written-header, written-body}
 use Rattle.frame.proofs.Sizes.{plane-length, plane-at}
 
 -- what is there stands above the n bits that are gathered behind it
@@ -63,9 +64,7 @@ codewords-return x g cws all short =
     tabulate-same (group * g) (codewordAt x g (planes g x cws)) (λ k. getD cws k 0) (λ k h. codeword-return x g cws k h ∙ mod-eq-of-lt (short k (rw all h)))
     ∙ rw (← all) (tabulate-list cws 0)
 
-pub received-return : {x y : ℕ} → x < 8 → y < 8 → (cws : List ℕ) → length cws / group * group ≡ length cws → ((k : ℕ) → k < length cws → getD cws k 0 < 2 ^ x)
-    → received (frameOf x y cws) ≡ cws
+pub received-return : {h : Header} → Fields h → (cws : List ℕ) → length cws ≡ sampleCount h → ((k : ℕ) → k < length cws → getD cws k 0 < 2 ^ (h .width))
+    → received (frameOf h cws) ≡ cws
 unfolding received
-received-return {x} wide deep cws whole short =
-    let f = written-fields wide deep cws in
-    rw (f .width, f .groups, f .rest) (codewords-return x (length cws / group) cws (omega arith) short)
+received-return {h} f cws all short = rw (written-header f cws, written-body f cws) (codewords-return (h .width) (h .groups) cws all short)

@@ -1,14 +1,16 @@
 -- The lengths of planes and frames, and the octets of a plane.
 use mathlib.Core.Path.{_≡_, sym, _∙_}
 use mathlib.Core.List.{List}
-use Prim.Native.Nat.{ℕ, zero, suc, _*_, _/_, _≤_, _<_}
+use Prim.Native.Nat.{ℕ, zero, suc, _*_, _≤_, _<_}
 use native.Mathlib.Nat.{zero-mul, suc-mul, add-comm, mul-comm, mul-le-mul}
 use native.Mathlib.Omega.{arith}
 use lib.ListN.{length, getD, drop, length-append}
 use Rattle.lists.proofs.Tables.{length-tabulate, getD-tabulate}
-use Rattle.frame.specs.Format.{group, mostGroups, frameLength}
+use Rattle.frame.specs.declared.header.Header.{Header}
+use Rattle.frame.specs.Header.{group, headerLength, mostGroups, dueLength}
 use Rattle.frame.specs.Planes.{gather, octetAt, plane, planes, frameOf}
-use Rattle.frame.specs.Sound.{Sound}
+use Rattle.frame.specs.Sound.{SoundHeader, Sound}
+use Rattle.frame.proofs.Headers.{octets-length}
 
 pub plane-length : (g b : ℕ) (codewords : List ℕ) → length (plane g b codewords) ≡ g
 unfolding plane
@@ -24,14 +26,14 @@ planes-length g zero codewords = sym (zero-mul g)
 planes-length g (suc b) codewords =
     simp (length-append, plane-length, planes-length g b codewords) (add-comm g (b * g) ∙ sym (suc-mul b g))
 
-pub frame-length : (x y : ℕ) (codewords : List ℕ) → length (frameOf x y codewords) ≡ frameLength x (length codewords / group)
-unfolding frameOf frameLength
-frame-length x y codewords = simp planes-length (omega arith)
+pub frame-length : (h : Header) (codewords : List ℕ) → length (frameOf h codewords) ≡ dueLength h
+unfolding frameOf
+frame-length h codewords = simp (length-append, planes-length, octets-length)
 
 -- "202 at most": so many octets are room enough for any frame
-pub length-most : {x g : ℕ} → x ≤ 5 → g ≤ mostGroups → frameLength x g ≤ 202
-unfolding frameLength
-length-most wide many = omega (arith, mul-le-mul wide many)
+pub length-most : {h : Header} → SoundHeader h → dueLength h ≤ 202
+unfolding headerLength mostGroups
+length-most s = omega (arith, mul-le-mul (s .pair .widths .high) (s .count .high))
 
-pub sound-most : {frame : List ℕ} → Sound frame → length frame ≤ 202
-sound-most s = rw (s .whole) (length-most (s .width .high) (s .groups .high))
+pub sound-most : {h : Header} {n : ℕ} → Sound h n → n ≤ 202
+sound-most s = rw (s .whole) (length-most (s .header))

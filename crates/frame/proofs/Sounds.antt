@@ -1,103 +1,65 @@
--- A frame with nothing wrong is sound, and a sound frame has nothing wrong; what the tests of pairs, groups and counts say.
-use mathlib.Core.Bool.{Bool, true, false, _||_}
-use mathlib.Core.List.{List}
-use mathlib.Core.Path.{_≡_, refl}
+-- A header to which no row applies is sound, and no row applies to a sound one; the same of a frame; and what the test of a count says.
+use mathlib.Core.Bool.{true, not}
+use mathlib.Core.List.{List, [], _∷_}
+use mathlib.Core.Path.{_≡_}
 use Prim.Native.Nat.{ℕ, _*_, _/_, _%_, _≤_}
 use native.Mathlib.Omega.{arith}
 use lib.Dec.{eqb, ltb}
-use lib.ListN.{length, getD}
-use borrow.Author.Tests.{ltb-false, le-ltb, eqb-true, eq-eqb}
-use Rattle.words.specs.Notation.{pick}
-use Rattle.words.specs.Within.{Within}
-use Rattle.words.proofs.Pick.{passed, held, pick-le}
-use Rattle.frame.specs.Format.{edition, headerLength, group, mostGroups, editionOf, frameLength, badPair, badGroups, badCount}
-use Rattle.frame.specs.Read.{frameWidth, frameCore, frameGroups}
-use Rattle.frame.specs.Wrong.{wrongWith}
-use Rattle.frame.specs.Sound.{Sound}
+use borrow.Author.Tests.{ltb-false, le-ltb, eqb-true, eq-eqb, not-false}
+use Rattle.words.specs.First.{Row}
+use Rattle.words.specs.Within.{Within, within}
+use Rattle.words.proofs.First.{NoneApplies, none-apart, none-joined}
+use Rattle.words.proofs.Rows.{both}
+use Rattle.words.proofs.Within.{within-says, within-of}
+use Rattle.quantizer.proofs.Pairs.{pair-says, pair-of}
+use Rattle.frame.specs.declared.header.Header.{Header}
+use Rattle.frame.specs.Header.{edition, fewest, group, mostGroups, dueLength, isCount}
+use Rattle.frame.specs.Rows.{headerRows, frameRows}
+use Rattle.frame.specs.Sound.{SoundHeader, Sound}
 
-pub neither-left : (a b : Bool) → a || b ≡ false → a ≡ false
-neither-left true b e = e
-neither-left false b e = refl
-
-pub neither-right : (a b : Bool) → a || b ≡ false → b ≡ false
-neither-right true true e = e
-neither-right true false e = refl
-neither-right false b e = e
-
-pub pair-says : (x y : ℕ) → badPair x y ≡ false → Within 2 4 y × Within y 5 x
-unfolding badPair
-pair-says x y e =
-    let abc = neither-left (ltb y 2 || ltb 4 y || ltb x y) (ltb 5 x) e in
-    let ab = neither-left (ltb y 2 || ltb 4 y) (ltb x y) abc in (
-      record { low = ltb-false y 2 (neither-left (ltb y 2) (ltb 4 y) ab); high = ltb-false 4 y (neither-right (ltb y 2) (ltb 4 y) ab) },
-      record { low = ltb-false x y (neither-right (ltb y 2 || ltb 4 y) (ltb x y) abc); high = ltb-false 5 x (neither-right (ltb y 2 || ltb 4 y || ltb x y) (ltb 5 x) e) },
-    )
-
-pub pair-of : (x y : ℕ) → Within 2 4 y → Within y 5 x → badPair x y ≡ false
-unfolding badPair
-pair-of x y core width = simp (le-ltb y 2 (core .low), le-ltb 4 y (core .high), le-ltb x y (width .low), le-ltb 5 x (width .high))
-
-pub groups-say : (g : ℕ) → badGroups g ≡ false → Within 1 mostGroups g
-unfolding badGroups
-groups-say g e = record { low = ltb-false g 1 (neither-left (ltb g 1) (ltb mostGroups g) e); high = ltb-false mostGroups g (neither-right (ltb g 1) (ltb mostGroups g) e) }
-
-pub groups-of : (g : ℕ) → Within 1 mostGroups g → badGroups g ≡ false
-unfolding badGroups
-groups-of g w = simp (le-ltb g 1 (w .low), le-ltb mostGroups g (w .high))
-
--- a count that is not bad is that of 1 to 40 whole groups
-pub count-says : (n : ℕ) → badCount n ≡ false → (n / group * group ≡ n) × Within 1 mostGroups (n / group)
-unfolding badCount
-count-says n e =
-    let ab = neither-left (ltb 0 (n % group) || ltb n group) (ltb (mostGroups * group) n) e in
-    let rest : n % group ≤ 0 = ltb-false 0 (n % group) (neither-left (ltb 0 (n % group)) (ltb n group) ab) in
-    let least : group ≤ n = ltb-false n group (neither-right (ltb 0 (n % group)) (ltb n group) ab) in
-    let most : n ≤ mostGroups * group = ltb-false (mostGroups * group) n (neither-right (ltb 0 (n % group) || ltb n group) (ltb (mostGroups * group) n) e) in
-    (omega arith, omega arith)
-
-pub count-of : (n : ℕ) → n / group * group ≡ n → Within 1 mostGroups (n / group) → badCount n ≡ false
-unfolding badCount
-count-of n whole w =
-    let rest : n % group ≤ 0 = omega arith in
-    let least : group ≤ n = omega arith in
-    let most : n ≤ mostGroups * group = omega arith in
-    simp (le-ltb 0 (n % group) rest, le-ltb n group least, le-ltb (mostGroups * group) n most)
-
-module _ (frame : List ℕ) where
-  pub sound-of : Sound frame → wrongWith frame ≡ 0
-  unfolding wrongWith
-  sound-of s = rw (le-ltb _ _ (s .long), eq-eqb _ _ (s .first), pair-of _ _ (s .core) (s .width), groups-of _ (s .groups), eq-eqb _ _ (s .whole))
-
-  pub sound-says : wrongWith frame ≡ 0 → Sound frame
-  unfolding wrongWith
-  sound-says e =
-      let x = frameWidth frame in
-      let y = frameCore frame in
-      let g = frameGroups frame in
-      let long = eqb (length frame) (frameLength x g) in
-      let rows : ℕ = pick (badPair x y) 1 (pick (badGroups g) 2 (pick long 0 6)) in
-      let row5 = passed (ltb (length frame) headerLength) 5 (pick (eqb (editionOf (getD frame 0 0)) edition) rows 5) (omega arith) e in
-      let row5′ = held (eqb (editionOf (getD frame 0 0)) edition) 5 rows (omega arith) (row5 .1) in
-      let row1 = passed (badPair x y) 1 (pick (badGroups g) 2 (pick long 0 6)) (omega arith) (row5′ .1) in
-      let row2 = passed (badGroups g) 2 (pick long 0 6) (omega arith) (row1 .1) in
-      let row6 = held long 6 0 (omega arith) (row2 .1) in
-      let pair = pair-says x y (row1 .0) in
+module _ (h : Header) where
+  pub header-says : NoneApplies (headerRows h) → SoundHeader h
+  header-says none =
       record {
-        long = ltb-false (length frame) headerLength (row5 .0);
-        first = eqb-true (editionOf (getD frame 0 0)) edition (row5′ .0);
-        core = pair .0;
-        width = pair .1;
-        groups = groups-say g (row2 .0);
-        whole = eqb-true (length frame) (frameLength x g) (row6 .0);
+        known = eqb-true (h .edition) edition (not-false _ (none .0));
+        pair = pair-says (h .width) (h .core) (not-false _ (none .1 .0));
+        count = within-says 1 (mostGroups (h .edition)) (h .groups) (not-false _ (none .1 .1 .0));
       }
 
--- no number of a frame is above 9
-pub wrong-small : (frame : List ℕ) → wrongWith frame ≤ 9
-unfolding wrongWith
-wrong-small frame =
-    pick-le (ltb (length frame) headerLength) (omega arith)
-    (pick-le (eqb (editionOf (getD frame 0 0)) edition)
-    (pick-le (badPair (frameWidth frame) (frameCore frame)) (omega arith)
-    (pick-le (badGroups (frameGroups frame)) (omega arith)
-    (pick-le (eqb (length frame) (frameLength (frameWidth frame) (frameGroups frame))) (omega arith) (omega arith))))
-    (omega arith))
+  pub header-none : SoundHeader h → NoneApplies (headerRows h)
+  header-none s = (rw (eq-eqb _ _ (s .known)), (rw (pair-of (s .pair)), (rw (within-of (s .count)), tt)))
+
+  module _ (n : ℕ) where
+    abbrev lengthRow : List Row
+    lengthRow = (6, not (eqb n (dueLength h))) ∷ []
+
+    pub sound-says : NoneApplies (frameRows h n) → Sound h n
+    sound-says none =
+        let apart = none-apart (headerRows h) lengthRow (none .1) in
+        record { long = ltb-false n fewest (none .0); header = header-says (apart .0); whole = eqb-true n (dueLength h) (not-false _ (apart .1 .0)) }
+
+    pub sound-none : Sound h n → NoneApplies (frameRows h n)
+    sound-none s = (le-ltb _ _ (s .long), none-joined (headerRows h) lengthRow (header-none (s .header)) (rw (eq-eqb _ _ (s .whole)), tt))
+
+-- the samples of 1 to 40 whole groups
+pub record Counted (e n : ℕ) : Type 0 where
+  pub whole : n / group * group ≡ n
+  pub groups : Within 1 (mostGroups e) (n / group)
+
+pub count-says : (e n : ℕ) → isCount e n ≡ true → Counted e n
+count-says e n t =
+    let r = both (eqb (n % group) 0) (within group (mostGroups e * group) n) t in
+    let rest = eqb-true (n % group) 0 (r .0) in
+    let w = within-says group (mostGroups e * group) n (r .1) in
+    let low = w .low in
+    let high = w .high in
+    record { whole = omega arith; groups = record { low = omega arith; high = omega arith } }
+
+pub count-of : {e n : ℕ} → Counted e n → isCount e n ≡ true
+count-of {e} {n} k =
+    let whole = k .whole in
+    let low = k .groups .low in
+    let high = k .groups .high in
+    let rest : n % group ≡ 0 = omega arith in
+    let ends : Within group (mostGroups e * group) n = record { low = omega arith; high = omega arith } in
+    rw (eq-eqb _ _ rest, within-of ends)

@@ -1,5 +1,5 @@
 -- Dropping planes is shifting codewords to the right: what is kept of a frame is the frame of the shorter codewords, in one step or in several,
--- and a frame thinned to its own width is itself (01, "The radio frame").
+-- and a frame thinned to its own width is itself (docs/RULES.md, "The radio frame").
 use mathlib.Core.Path.{_≡_, refl, sym, _∙_}
 use mathlib.Core.List.{List, [], _∷_, map}
 use Prim.Native.Nat.{ℕ, zero, suc, _+_, _-_, _*_, _/_, _%_, _^_, _≤_, _<_}
@@ -11,12 +11,13 @@ use lib.Seq.{take-all, take-take, take-append-add, getD-take}
 use Rattle.words.specs.Notation.{_>>_}
 use Rattle.lists.proofs.Parts.{drop-take, drop-map}
 use Rattle.lists.proofs.Tables.{tabulate-same, map-tabulate}
-use Rattle.frame.specs.Format.{headerLength, group, widthOf, frameLength}
+use Rattle.frame.specs.declared.header.Header.{Header}
+use Rattle.frame.specs.Header.{group, headerOf}
 use Rattle.frame.specs.Planes.{bit, gather, octetAt, plane, planes, frameOf}
-use Rattle.frame.specs.Read.{collect, codewordAt, codewords, frameWidth, frameCore, frameGroups, body, received, thinned}
+use Rattle.frame.specs.Read.{collect, codewordAt, codewords, body, received, narrowed, thinned}
 use Rattle.frame.specs.Sound.{Sound}
 use Rattle.frame.proofs.Bits.{bit-gone}
-use Rattle.frame.proofs.Fields.{head-back, width-small, written-fields, thinned-fields}
+use Rattle.frame.proofs.Headers.{Fields, header-fields, frame-whole, written-header, written-body, thinned-header, thinned-body}
 use Rattle.frame.proofs.Sizes.{plane-length}
 
 -- the codewords with their d lowest bits left out
@@ -53,33 +54,26 @@ planes-thinned g {w} {x} narrow cws =
     let places : w + (x - w) ≡ x = omega arith in
     rw places at (planes-shorter g w (x - w) cws)
 
-pub frame-thinned : {w x y : ℕ} → w ≤ x → x < 8 → y < 8 → (cws : List ℕ) → thinned w (frameOf x y cws) ≡ frameOf w y (map (λ c. c >> (x - w)) cws)
+pub frame-thinned : {w : ℕ} {h : Header} → w ≤ h .width → Fields h → (cws : List ℕ)
+    → thinned w (frameOf h cws) ≡ frameOf (narrowed w h) (map (λ c. c >> (h .width - w)) cws)
 unfolding thinned frameOf
-frame-thinned {w} {x} narrow wide deep cws =
-    let f = written-fields wide deep cws in
-    rw (f .core, f .groups, f .rest, length-map cws (λ c. c >> (x - w)), planes-thinned (length cws / group) narrow cws)
+frame-thinned {w} {h} narrow f cws = rw (written-header f cws, written-body f cws, planes-thinned (h .groups) narrow cws)
 
 -- thinning twice is thinning once
 pub thinned-thinned : {v w : ℕ} → v ≤ w → w < 8 → (frame : List ℕ) → thinned v (thinned w frame) ≡ thinned v frame
 unfolding thinned
 thinned-thinned {v} {w} less narrow frame =
-    let f = thinned-fields narrow frame in
-    let fewer : v * frameGroups frame ≤ w * frameGroups frame = mul-le-mul-right (frameGroups frame) less in
-    rw (f .core, f .groups, f .rest, take-take (v * frameGroups frame) (w * frameGroups frame) (body frame))
+    let g = headerOf frame .groups in
+    let fewer : v * g ≤ w * g = mul-le-mul-right g less in
+    rw (thinned-header narrow frame, thinned-body narrow frame, take-take (v * g) (w * g) (body frame))
 
--- a frame is its header and its planes
-whole-frame : (frame : List ℕ) → headerLength ≤ length frame → frame ≡ getD frame 0 0 ∷ frameGroups frame ∷ body frame
-unfolding frameGroups body
-whole-frame [] h = absurd (omega arith)
-whole-frame (a ∷ []) h = absurd (omega arith)
-whole-frame (a ∷ b ∷ frame) h = refl
-
-pub thinned-same : (frame : List ℕ) → Sound frame → thinned (frameWidth frame) frame ≡ frame
-unfolding thinned frameWidth frameCore body frameLength
+pub thinned-same : (frame : List ℕ) → Sound (headerOf frame) (length frame) → thinned (headerOf frame .width) frame ≡ frame
+unfolding thinned body
 thinned-same frame s =
+    let h = headerOf frame in
     let whole = s .whole in
-    let size : length (drop headerLength frame) ≤ widthOf (getD frame 0 0) * frameGroups frame = simp length-drop (omega arith) in
-    rw (head-back (getD frame 0 0) (s .first), take-all (widthOf (getD frame 0 0) * frameGroups frame) (drop headerLength frame) size) (sym (whole-frame frame (s .long)))
+    let size : length (body frame) ≤ h .width * h .groups = simp length-drop (omega arith) in
+    rw (take-all (h .width * h .groups) (body frame) size) (frame-whole frame (omega arith))
 
 -- of x planes the last d give the d lowest bits
 module _ (g k : ℕ) where
@@ -118,8 +112,9 @@ codewords-thinned g {w} {x} narrow octets =
     tabulate-same (group * g) (codewordAt w g (take (w * g) octets)) (λ k. codewordAt x g octets k >> (x - w)) (λ k within. codeword-thinned g k within narrow octets)
     ∙ sym (map-tabulate (λ c. c >> (x - w)) (group * g) (codewordAt x g octets))
 
-pub received-thinned : {w : ℕ} (frame : List ℕ) → w ≤ frameWidth frame → received (thinned w frame) ≡ map (λ c. c >> (frameWidth frame - w)) (received frame)
+pub received-thinned : {w : ℕ} (frame : List ℕ) → w ≤ headerOf frame .width
+    → received (thinned w frame) ≡ map (λ c. c >> (headerOf frame .width - w)) (received frame)
 unfolding received
 received-thinned {w} frame narrow =
-    let f = thinned-fields (lt-of-le-of-lt narrow (width-small frame)) frame in
-    rw (f .width, f .groups, f .rest) (codewords-thinned (frameGroups frame) narrow (body frame))
+    let small = lt-of-le-of-lt narrow (header-fields frame .width) in
+    rw (thinned-header small frame, thinned-body small frame) (codewords-thinned (headerOf frame .groups) narrow (body frame))

@@ -1,6 +1,6 @@
-pub mod Format
+pub mod Header
 pub mod Planes
 pub mod Read
-pub mod Wrong
+pub mod Rows
 pub mod Sound
 pub mod Shifted

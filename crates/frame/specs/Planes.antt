@@ -1,11 +1,12 @@
--- A frame written (01, "The radio frame"): "x planes of g octets each: first the sign bits of all samples, then the next lower bit, and so on.
+-- A frame written (docs/RULES.md, "The radio frame"): "x planes of g octets each: first the sign bits of all samples, then the next lower bit, and so on.
 -- Within a plane the first sample has the most significant bit of the first octet."
-use mathlib.Core.List.{List, [], _∷_, _++_}
-use Prim.Native.Nat.{ℕ, zero, suc, _+_, _*_, _/_, _%_}
-use lib.ListN.{length, getD, drop}
+use mathlib.Core.List.{List, [], _++_}
+use Prim.Native.Nat.{ℕ, zero, suc, _+_, _*_, _%_}
+use lib.ListN.{getD, drop}
 use Rattle.words.specs.Notation.{_>>_}
 use Rattle.lists.specs.Tabulate.{tabulate}
-use Rattle.frame.specs.Format.{group, head}
+use Rattle.frame.specs.declared.header.Header.{Header}
+use Rattle.frame.specs.Header.{group, headerOctets}
 
 -- bit b of a number, the least significant bit being 0
 unfoldable pub bit : ℕ → ℕ → ℕ
@@ -29,8 +30,6 @@ unfoldable pub planes : ℕ → ℕ → List ℕ → List ℕ
 planes g zero codewords = []
 planes g (suc b) codewords = plane g b codewords ++ planes g b codewords
 
--- the frame of a list of codewords of x bits, of which y are core bits
-unfoldable pub frameOf : ℕ → ℕ → List ℕ → List ℕ
-frameOf x y codewords =
-    let g = length codewords / group in
-    head x y ∷ g ∷ planes g x codewords
+-- the frame of a header and its codewords
+unfoldable pub frameOf : Header → List ℕ → List ℕ
+frameOf h codewords = headerOctets h ++ planes (h .groups) (h .width) codewords

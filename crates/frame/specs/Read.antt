@@ -1,9 +1,10 @@
--- A frame read, and a frame thinned (01, "The radio frame"): "Dropping to width w keeps the first w planes and writes w in the x field."
-use mathlib.Core.List.{List, _∷_}
+-- A frame read, and a frame thinned (docs/RULES.md, "The radio frame"): "Dropping to width w keeps the first w planes and writes w in the x field."
+use mathlib.Core.List.{List, _++_}
 use Prim.Native.Nat.{ℕ, zero, suc, _+_, _-_, _*_, _/_, _%_}
 use lib.ListN.{getD, take, drop}
 use Rattle.lists.specs.Tabulate.{tabulate}
-use Rattle.frame.specs.Format.{headerLength, group, head, widthOf, coreOf}
+use Rattle.frame.specs.declared.header.Header.{Header}
+use Rattle.frame.specs.Header.{headerLength, group, headerOctets, headerOf}
 use Rattle.frame.specs.Planes.{bit}
 
 -- the bits of sample k in the next x planes of g octets, most significant first, behind what is there
@@ -18,21 +19,16 @@ codewordAt x g body k = collect x g k body 0
 unfoldable pub codewords : ℕ → ℕ → List ℕ → List ℕ
 codewords x g body = tabulate (group * g) (codewordAt x g body)
 
--- the fields and the planes of a frame
-unfoldable pub frameWidth : List ℕ → ℕ
-frameWidth frame = widthOf (getD frame 0 0)
-
-unfoldable pub frameCore : List ℕ → ℕ
-frameCore frame = coreOf (getD frame 0 0)
-
-unfoldable pub frameGroups : List ℕ → ℕ
-frameGroups frame = getD frame 1 0
-
+-- the planes of a frame, and the codewords that they hold
 unfoldable pub body : List ℕ → List ℕ
-body frame = drop headerLength frame
+body frame = drop (headerLength (headerOf frame .edition)) frame
 
 unfoldable pub received : List ℕ → List ℕ
-received frame = codewords (frameWidth frame) (frameGroups frame) (body frame)
+received frame = codewords (headerOf frame .width) (headerOf frame .groups) (body frame)
+
+-- the header with w in its x field, and the frame with its first w planes
+abbrev pub narrowed : ℕ → Header → Header
+narrowed w h = record { edition = h .edition; width = w; core = h .core; groups = h .groups }
 
 unfoldable pub thinned : ℕ → List ℕ → List ℕ
-thinned w frame = head w (frameCore frame) ∷ frameGroups frame ∷ take (w * frameGroups frame) (body frame)
+thinned w frame = headerOctets (narrowed w (headerOf frame)) ++ take (w * headerOf frame .groups) (body frame)

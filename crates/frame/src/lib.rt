@@ -1,4 +1,4 @@
-// The radio frame: header, planes written and read with shifts and masks, what is wrong with a frame, and dropping planes.
-pub mod format;
+// The radio frame: its header as a value, planes written and read with shifts and masks, whole frames written and thinned.
+pub mod header;
 pub mod planes;
 pub mod whole;

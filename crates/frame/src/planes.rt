@@ -3,11 +3,11 @@ ghost use mathlib.Core.Path.{_≡_};
 ghost use mathlib.Core.List.{_++_};
 ghost use Prim.Native.Nat.{_+_, _*_, _/_, _≤_, _<_};
 ghost use lib.ListN.{length, drop};
-ghost use Rattle.frame.specs.Format.{group};
+ghost use Rattle.frame.specs.Header.{group};
 ghost use Rattle.frame.specs.Planes.{gather, plane, planes};
 ghost use Rattle.frame.specs.Read.{codewordAt};
 ghost use Rattle.frame.specs.Shifted.{Shifted};
-use crate::format::GROUP;
+use crate::header::GROUP;
 
 // What is there, one place to the left, with bit b of c behind it
 fn shift_in(there: u8, b: u8, c: u8) -> u8

@@ -1,40 +1,40 @@
-// Whole frames: written from codewords, and thinned to fewer planes (01, "The radio frame").
+// Whole frames: written from codewords, and thinned to fewer planes (docs/RULES.md, "The radio frame").
 ghost use mathlib.Core.Path.{_≡_};
 ghost use mathlib.Core.List.{_++_};
-ghost use Prim.Native.Nat.{_/_, _≤_, _<_};
+ghost use Prim.Native.Nat.{_/_, _≤_};
 ghost use lib.ListN.{length, drop};
-ghost use Rattle.frame.specs.Format.{headerLength, group, frameLength};
+ghost use Rattle.words.specs.Within.{Within};
+ghost use Rattle.frame.specs.Header.{group, headerOf, dueLength};
 ghost use Rattle.frame.specs.Planes.{frameOf};
-ghost use Rattle.frame.specs.Read.{frameGroups, thinned};
-use crate::format::GROUP;
-use crate::format::HEADER_LENGTH;
-use crate::format::core_of;
-use crate::format::frame_length;
-use crate::format::header;
+ghost use Rattle.frame.specs.Read.{narrowed, thinned};
+ghost use Rattle.frame.specs.Sound.{SoundHeader, Sound};
+use crate::header::HEADER_LENGTH;
+use crate::header::Header;
+use crate::header::due_length;
+use crate::header::head;
 use crate::planes::write_planes;
 
-pub fn write_frame(codewords: &[u8], x: u8, y: u8, out: &mut [u8])
-    requires { ⌜ (x < 8) × (y < 8) × (length (now codewords) / group < 256) × (frameLength x (length (now codewords) / group) ≤ length (now out)) ⌝ }
-    ensures { λ _. ⌜ now (out .exit) ≡ frameOf x y (now (codewords .entry)) ++ drop (frameLength x (length (now (codewords .entry)) / group)) (now (out .entry)) ⌝ }
+pub fn write_frame(codewords: &[u8], h: Header, out: &mut [u8])
+    requires { ⌜ SoundHeader h × (h .groups ≡ length (now codewords) / group) × (dueLength h ≤ length (now out)) ⌝ }
+    ensures { λ _. ⌜ now (out .exit) ≡ frameOf h (now (codewords .entry)) ++ drop (dueLength h) (now (out .entry)) ⌝ }
 {
-    write_planes(codewords, x, &mut out[HEADER_LENGTH..]);
-    out[0] = header(x, y);
-    out[1] = (codewords.len() / GROUP) as u8;
+    write_planes(codewords, h.width, &mut out[HEADER_LENGTH..]);
+    out[0] = head(h);
+    out[1] = h.groups;
 }
 
-pub fn thin_frame(frame: &[u8], w: u8, out: &mut [u8])
-    requires { ⌜ (w < 8) × (headerLength ≤ length (now frame)) × (frameLength w (frameGroups (now frame)) ≤ length (now frame)) × (frameLength w (frameGroups (now frame)) ≤ length (now out)) ⌝ }
-    ensures { λ _. ⌜ now (out .exit) ≡ thinned w (now (frame .entry)) ++ drop (frameLength w (frameGroups (now (frame .entry)))) (now (out .entry)) ⌝ }
+pub fn thin_frame(frame: &[u8], h: Header, w: u8, out: &mut [u8])
+    requires { ⌜ (h ≡ headerOf (now frame)) × Sound h (length (now frame)) × Within (h .core) (h .width) w × (dueLength (narrowed w h) ≤ length (now out)) ⌝ }
+    ensures { λ _. ⌜ now (out .exit) ≡ thinned w (now (frame .entry)) ++ drop (dueLength (narrowed w h)) (now (out .entry)) ⌝ }
 {
-    let n = frame_length(w, wide(frame[1]));
+    let thin = narrow(h, w);
+    let n = due_length(thin);
     bytes::copy(&frame[..n], out);
-    let first = frame[0];
-    out[0] = header(w, core_of(first));
+    out[0] = head(thin);
 }
 
-// An octet as a length
-pub fn wide(octet: u8) -> usize
-    ensures { λ r. ⌜ (r ≡ octet) × (r ≤ 255) ⌝ }
+pub fn narrow(h: Header, w: u8) -> Header
+    ensures { λ r. ⌜ r ≡ narrowed w h ⌝ }
 {
-    octet as usize
+    Header { width: w, ..h }
 }

@@ -1,4 +1,5 @@
 pub mod Tests
+pub mod Pairs
 pub mod Columns
 pub mod Bounds
 pub mod Thresholds

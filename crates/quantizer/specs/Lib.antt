@@ -1,4 +1,5 @@
 pub mod Codeword
+pub mod Pair
 pub mod Table
 pub mod Decision
 pub mod Threshold

@@ -5,6 +5,7 @@ pub mod decision;
 pub mod multiplier;
 pub mod order;
 pub mod output;
+pub mod pair;
 
 // What RECONST gives: the sign and the logarithm of the quantized difference.
 pub struct Quantized {

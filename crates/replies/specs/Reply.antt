@@ -1,7 +1,7 @@
 -- 01's numbered replies: the number of each case of the enum that the calls answer with.
 use mathlib.Core.Bool.{Bool}
 use Prim.Native.Nat.{ℕ}
-use lib.Dec.{ltb}
+use lib.Dec.{leb}
 use Rattle.replies.specs.declared.Reply.{Reply}
 use Rattle.replies.specs.declared.Reply.the-variants.{Done, Pair, Count, Room, Range, Header, Length, Core, Target, Law}
 
@@ -20,6 +20,6 @@ numberOf Core = 7
 numberOf Target = 8
 numberOf Law = 9
 
--- law not 0 or 1
-unfoldable pub badLaw : ℕ → Bool
-badLaw LAW = ltb 1 LAW
+-- law 0 (mu) or 1 (A)
+abbrev pub isLaw : ℕ → Bool
+isLaw LAW = leb LAW 1

@@ -1,7 +1,7 @@
-// 01's replies and their numbers, both ways; specs/Reply.antt has the number of each.
+// The replies that every call answers with, and their numbers; specs/Reply.antt has the number of each.
 ghost use mathlib.Core.Path.{_≡_};
-ghost use Prim.Native.Nat.{_≤_};
-ghost use Rattle.replies.specs.Reply.{numberOf};
+ghost use lib.Dec.{eqb};
+ghost use Rattle.replies.specs.Reply.{isLaw, numberOf};
 
 pub enum Reply {
     Done,
@@ -14,24 +14,6 @@ pub enum Reply {
     Core,
     Target,
     Law,
-}
-
-pub fn reply_of(number: u8) -> Reply
-    requires { ⌜ number ≤ 9 ⌝ }
-    ensures { λ r. ⌜ numberOf r ≡ number ⌝ }
-{
-    match number {
-        0 => Reply::Done,
-        1 => Reply::Pair,
-        2 => Reply::Count,
-        3 => Reply::Room,
-        4 => Reply::Range,
-        5 => Reply::Header,
-        6 => Reply::Length,
-        7 => Reply::Core,
-        8 => Reply::Target,
-        _ => Reply::Law,
-    }
 }
 
 // The number of a reply, for whoever prints or sends it.
@@ -50,4 +32,16 @@ pub fn number_of(reply: Reply) -> u8
         Reply::Target => 8,
         Reply::Law => 9,
     }
+}
+
+pub fn is_done(reply: Reply) -> bool
+    ensures { λ r. ⌜ r ≡ eqb (numberOf reply) 0 ⌝ }
+{
+    number_of(reply) == 0
+}
+
+pub fn is_law(law: u8) -> bool
+    ensures { λ r. ⌜ r ≡ isLaw law ⌝ }
+{
+    law <= 1
 }

@@ -12,7 +12,7 @@ use Rattle.engine.specs.Estimate.{Y, SE}
 use Rattle.engine.specs.Difference.{difference}
 use Rattle.engine.specs.Advance.{advanceOf}
 use Rattle.sample.specs.declared.Decoded.{Decoded}
-use Rattle.sample.specs.Pair.{Ic}
+use Rattle.sample.specs.Masking.{Ic}
 use Rattle.sample.specs.Encode.{normalOf}
 
 -- "Re-encode output PCM sample in decoder for synchronous tandem coding": SD
@@ -35,3 +35,13 @@ module _ (s : State) (LAW width I : ℕ) where
 
   unfoldable pub decodeOf : Decoded
   decodeOf = record { byte = SD; moved = moved; state = advanceOf s (Ic s width I) }
+
+-- as a step of a run, at a law and a width: the next state, what is put out, and what is counted
+abbrev pub decoderNext : ℕ → ℕ → State → ℕ → State
+decoderNext LAW width s I = decodeOf s LAW width I .state
+
+abbrev pub byteOf : ℕ → ℕ → State → ℕ → ℕ
+byteOf LAW width s I = decodeOf s LAW width I .byte
+
+abbrev pub movedOf : ℕ → ℕ → State → ℕ → ℕ
+movedOf LAW width s I = decodeOf s LAW width I .moved

@@ -10,7 +10,7 @@ use Rattle.engine.specs.Estimate.{Y, SE}
 use Rattle.engine.specs.Advance.{advanceOf}
 use Rattle.sample.specs.declared.Encoded.{Encoded}
 use Rattle.sample.specs.declared.Normal.{Normal}
-use Rattle.sample.specs.Pair.{Ic}
+use Rattle.sample.specs.Masking.{Ic}
 
 module _ (s : State) (LAW : ℕ) where
   -- D, and DLN and DS of it. The decoder's SYNC has DX, DLNX and DSX by the same steps
@@ -25,3 +25,10 @@ module _ (s : State) (LAW : ℕ) where
 
   unfoldable pub encodeOf : ℕ → ℕ → Encoded
   encodeOf width S = record { codeword = I width S; state = advanceOf s (Ic s width (I width S)) }
+
+-- as a step of a run, at a law and a width: the next state, and what is put out
+abbrev pub encoderNext : ℕ → ℕ → State → ℕ → State
+encoderNext LAW width s S = encodeOf s LAW width S .state
+
+abbrev pub codewordOf : ℕ → ℕ → State → ℕ → ℕ
+codewordOf LAW width s S = encodeOf s LAW width S .codeword

@@ -1,3 +1,3 @@
-pub mod Pair
+pub mod Masking
 pub mod Encode
 pub mod Decode

@@ -4,9 +4,10 @@ ghost use mathlib.Core.Path.{_≡_};
 ghost use lib.Dec.{eqb};
 ghost use Rattle.words.specs.Notation.{pick};
 ghost use Rattle.quantizer.specs.Codeword.{Codeword};
+ghost use Rattle.quantizer.specs.Pair.{Pair};
 ghost use Rattle.state.specs.InRange.{InRange};
 ghost use Rattle.engine.specs.Estimate.{estimateOf};
-ghost use Rattle.sample.specs.Pair.{Pair, Ic};
+ghost use Rattle.sample.specs.Masking.{Ic};
 ghost use Rattle.sample.specs.Encode.{normalOf, encodeOf};
 ghost use Rattle.sample.specs.Decode.{SYNC, SP, decodeOf};
 use engine::Estimated;
@@ -43,7 +44,7 @@ pub struct Decoded {
 }
 
 pub fn encode_sample(s: State, law: u8, width: u8, byte: u8) -> Encoded
-    requires { ⌜ InRange s × Pair s width ⌝ }
+    requires { ⌜ InRange s × Pair width (s .core) ⌝ }
     ensures { λ r. ⌜ r ≡ encodeOf s law width byte ⌝ }
 {
     let e = estimate(s);
@@ -57,7 +58,7 @@ pub fn encode_sample(s: State, law: u8, width: u8, byte: u8) -> Encoded
 }
 
 pub fn decode_sample(s: State, law: u8, width: u8, i: u8) -> Decoded
-    requires { ⌜ InRange s × Pair s width × Codeword width i ⌝ }
+    requires { ⌜ InRange s × Pair width (s .core) × Codeword width i ⌝ }
     ensures { λ r. ⌜ r ≡ decodeOf s law width i ⌝ }
 {
     let e = estimate(s);
@@ -73,7 +74,7 @@ pub fn decode_sample(s: State, law: u8, width: u8, i: u8) -> Decoded
 
 // The bit masking of section 6.2.3: what alone moves the state
 fn core_bits(s: State, width: u8, i: u8) -> u8
-    requires { ⌜ Pair s width ⌝ }
+    requires { ⌜ Pair width (s .core) ⌝ }
     ensures { λ r. ⌜ r ≡ Ic s width i ⌝ }
 {
     i >> (width - s.core)

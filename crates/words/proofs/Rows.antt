@@ -11,7 +11,7 @@ abbrev pub Each : List Bool → Type 0
 Each [] = Unit
 Each (t ∷ ts) = (t ≡ true) × Each ts
 
-both : (a b : Bool) → a && b ≡ true → (a ≡ true) × (b ≡ true)
+pub both : (a b : Bool) → a && b ≡ true → (a ≡ true) × (b ≡ true)
 both a b e =
     let t : T (a && b) = rw e tt in
     (is-true a (and-left a b t), is-true b (and-right a b t))

@@ -2,3 +2,4 @@ pub mod Notation
 pub mod Length
 pub mod Within
 pub mod Every
+pub mod First

@@ -1,7 +1,7 @@
 -- `sample::core_bits` meets its contract, which is its own text.
 use borrow.Author.Needs.{needs}
 use mathlib.Core.Path.{refl}
-use Rattle.sample.specs.Pair.{Ic}
+use Rattle.sample.specs.Masking.{Ic}
 use Rattle.sample.proofs.core_bits.Statement.{statement}
 use Rattle.sample.proofs.core_bits.Tie as tie
 

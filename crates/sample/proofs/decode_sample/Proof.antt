@@ -14,7 +14,7 @@ core-bits-requires c κs = search needs
 advance-requires : tie.Need-advance-requires
 advance-requires c κs =
     let at = c .before .before in
-    (at .pre .0, c .before .estimate .ensures, rw (c .core-bits .ensures) (core-codeword (at .args .s) (at .pre .0) (at .pre .1) (at .pre .2 .short)))
+    (at .pre .0, c .before .estimate .ensures, rw (c .core-bits .ensures) (core-codeword (at .args .s) (at .pre .1) (at .pre .2 .short)))
 
 decoded-byte-requires : tie.Need-decoded-byte-requires
 decoded-byte-requires c κs = search needs

@@ -3,7 +3,8 @@ use borrow.Author.Needs.{needs}
 use mathlib.Core.Path.{_≡_}
 use Rattle.sample.specs.Encode.{I, encodeOf}
 use Rattle.sample.proofs.Normals.{dln-word, ds-bit, codeword-range}
-use Rattle.sample.proofs.Cores.{pair-width, core-codeword}
+use Rattle.quantizer.proofs.Pairs.{pair-width}
+use Rattle.sample.proofs.Cores.{core-codeword}
 use Rattle.sample.proofs.encode_sample.Statement.{statement}
 use Rattle.sample.proofs.encode_sample.Tie as tie
 
@@ -31,8 +32,8 @@ advance-requires c κs =
     let at = c .before .before .before .before in
     let s = at .args .s in
     let i = at .pre .0 in
-    let short = codeword-range s (at .args .law) (at .args .byte) (pair-width s i (at .pre .1)) .short in
-    (i, c .before .before .before .estimate .ensures, rw (c .core-bits .ensures, is-codeword (c .before)) (core-codeword s i (at .pre .1) short))
+    let short = codeword-range s (at .args .law) (at .args .byte) (pair-width (at .pre .1)) .short in
+    (i, c .before .before .before .estimate .ensures, rw (c .core-bits .ensures, is-codeword (c .before)) (core-codeword s (at .pre .1) short))
 
 returns : tie.Need-returns
 unfolding encodeOf I

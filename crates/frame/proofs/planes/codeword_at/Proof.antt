@@ -2,7 +2,7 @@
 use mathlib.Core.Path.{_≡_, refl}
 use Prim.Native.Nat.{_-_, _%_}
 use native.Mathlib.Omega.{arith}
-use Rattle.frame.specs.Format.{group}
+use Rattle.frame.specs.Header.{group}
 use Rattle.frame.proofs.Collecting.{Collecting, collecting-none, collecting-within, collecting-plane, collecting-room, collecting-more, collecting-done}
 use Rattle.frame.proofs.planes.codeword_at.Statement.{statement}
 use Rattle.frame.proofs.planes.codeword_at.Tie as tie

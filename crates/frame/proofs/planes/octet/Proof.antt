@@ -1,7 +1,7 @@
 -- `frame::planes::octet` meets its contract: the loop keeps what is left to gather.
 use Prim.Native.Nat.{_-_}
 use native.Mathlib.Omega.{arith}
-use Rattle.frame.specs.Format.{group}
+use Rattle.frame.specs.Header.{group}
 use Rattle.frame.proofs.Gathering.{Gathering, gathering-none, gathering-room, gathering-more, gathering-done}
 use Rattle.frame.proofs.planes.octet.Statement.{statement}
 use Rattle.frame.proofs.planes.octet.Tie as tie

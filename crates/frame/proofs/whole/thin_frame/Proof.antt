@@ -1,42 +1,31 @@
--- `frame::whole::thin_frame` meets its contract: the first planes are copied, and the width in the header is stored anew.
+-- `frame::whole::thin_frame` meets its contract: the first planes are copied, and the header's first octet is stored anew.
 use borrow.Author.Needs.{needs}
 use mathlib.Core.Path.{_≡_, sym, _∙_}
-use Prim.Native.Nat.{_+_, _*_, _≤_}
+use Prim.Native.Nat.{_*_, _≤_}
+use native.Mathlib.Nat.{mul-le-mul-right}
 use native.Mathlib.Omega.{arith}
-use lib.ListN.{length, getD, drop}
+use lib.ListN.{length, drop}
 use lib.Seq.{length-take-le}
 use denote.Ref.{now}
-use Rattle.frame.specs.Format.{headerLength, head, frameLength}
-use Rattle.frame.specs.Read.{frameCore, frameGroups, body, thinned}
-use Rattle.frame.proofs.Fields.{core-bits}
+use Rattle.frame.specs.Header.{headerLength, headerOf, dueLength}
+use Rattle.frame.specs.Read.{narrowed, thinned}
 use Rattle.frame.proofs.Headers.{header-renewed, copied}
+use Rattle.frame.proofs.Kept.{narrowed-sound}
 use Rattle.frame.proofs.whole.thin_frame.Statement.{statement}
 use Rattle.frame.proofs.whole.thin_frame.Tie as tie
 
 -- the octets that are copied are the thinned frame's, of which the frame and the buffer have enough
-is-length : (c : tie.After-frame-length) → c .frame-length .result ≡ frameLength (c .before .before .before .before .before .args .w) (frameGroups (now (c .before .before .before .before .before .args .frame)))
-unfolding frameGroups
-is-length c = c .frame-length .ensures ∙ rw (c .before .wide .ensures .0)
+is-length : (c : tie.After-due-length) → c .due-length .result ≡ dueLength (narrowed (c .before .before .before .before .args .w) (c .before .before .before .before .args .h))
+is-length c = c .due-length .ensures ∙ rw (c .before .narrow .ensures)
 
-long : (c : tie.After-frame-length) → c .frame-length .result ≤ length (now (c .before .before .before .before .before .args .frame))
-long c = rw (is-length c) (c .before .before .before .before .before .pre .2)
+long : (c : tie.After-due-length) → c .due-length .result ≤ length (now (c .before .before .before .before .args .frame))
+long c =
+    let at = c .before .before .before .before in
+    let fewer : at .args .w * at .args .h .groups ≤ at .args .h .width * at .args .h .groups = mul-le-mul-right (at .args .h .groups) (at .pre .2 .high) in
+    rw (is-length c) (omega (arith, at .pre .1 .whole))
 
-room : (c : tie.After-frame-length) → c .frame-length .result ≤ length (now (c .before .before .before .before .before .args .out))
-room c = rw (is-length c) (c .before .before .before .before .before .pre .3)
-
--- the octet that is stored in front has the new width, and the core of the frame
-renewed : (c : tie.After-header) → c .header .result ≡ head (c .before .before .before .before .before .before .before .before .before .before .before .before .before .args .w) (frameCore (now (c .before .before .before .before .before .before .before .before .before .before .before .before .before .args .frame)))
-unfolding frameCore
-renewed c = c .header .ensures ∙ rw (c .before .core-of .ensures)
-
-shared-slice-read-wide : tie.Need-shared-slice-read-wide
-shared-slice-read-wide c = search needs
-
-wide-requires : tie.Need-wide-requires
-wide-requires c κs = search needs
-
-frame-length-requires : tie.Need-frame-length-requires
-frame-length-requires c κs = (c .before .before .before .before .pre .0, omega (arith, c .wide .ensures .1))
+room : (c : tie.After-due-length) → c .due-length .result ≤ length (now (c .before .before .before .before .args .out))
+room c = rw (is-length c) (c .before .before .before .before .pre .3)
 
 slice-aggregate-copy : tie.Need-slice-aggregate-copy
 slice-aggregate-copy c = sym (length-take-le _ _ (long (c .before)))
@@ -44,45 +33,34 @@ slice-aggregate-copy c = sym (length-take-le _ _ (long (c .before)))
 copy-requires : tie.Need-copy-requires
 copy-requires c κs = rw (length-take-le _ _ (long (c .before .before))) (room (c .before .before))
 
-shared-slice-read-first : tie.Need-shared-slice-read-first
-shared-slice-read-first c = search needs
-
-core-of-requires : tie.Need-core-of-requires
-core-of-requires c κs = search needs
-
-header-requires : tie.Need-header-requires
-header-requires c κs = (c .before .before .before .before .before .before .before .before .before .before .before .before .pre .0, rw (c .core-of .ensures) (core-bits _))
+head-requires : tie.Need-head-requires
+head-requires c κs =
+    let at = c .before .before .before .before .before .before .before .before .before in
+    rw (c .before .before .before .before .before .before .narrow .ensures) (narrowed-sound (at .pre .1 .header) (at .pre .2))
 
 slice-write-out : tie.Need-slice-write-out
-unfolding frameLength
-slice-write-out c = omega (arith, c .before .before .before .before .before .copy .kept .1 .0, c .before .before .before .before .before .before .before .before .before .before .before .before .before .pre .3)
-
-same-length : tie.Need-same-length
-same-length c = search needs
+unfolding headerLength
+slice-write-out c = omega (arith, c .before .before .before .copy .kept .1 .0, c .before .before .before .before .before .before .before .before .before .before .pre .3)
 
 returns : tie.Need-returns
-unfolding thinned frameGroups body frameLength
+unfolding thinned
 returns c =
-    let at = c .before .before .before .before .before .before .before .before .before .before .before .before .before in
-    let called = c .before .before .before .before .before .before .before .before in
+    let at = c .before .before .before .before .before .before .before .before .before .before in
+    let called = c .before .before .before .before .before .before in
     let f = now (at .args .frame) in
     let d = now (at .args .out) in
-    let m = at .args .w * getD f 1 0 in
-    let done = copied (called .frame-length .result) f d (long called) (c .before .before .before .before .before .copy .ensures .1) in
-    rw (done, renewed c, is-length called) (header-renewed f m _ (drop (headerLength + m) d) (at .pre .1))
+    let done = copied (called .due-length .result) f d (long called) (c .before .before .before .copy .ensures .1) in
+    rw (done, c .head .ensures, c .before .before .before .before .before .before .before .narrow .ensures, is-length called, at .pre .0) (header-renewed (at .args .w) (at .args .w * headerOf f .groups) f _ (rw (← at .pre .0) (omega (arith, at .pre .1 .whole))))
 
 pub thin-frame-spec : {M : Type 1} → statement M
 thin-frame-spec =
     tie.close
     (tie.spec
-    shared-slice-read-wide
-    wide-requires
-    frame-length-requires
+    (λ c κs. search needs)
+    (λ c κs. search needs)
     slice-aggregate-copy
     copy-requires
-    shared-slice-read-first
-    core-of-requires
-    header-requires
+    head-requires
     slice-write-out
-    same-length
+    (λ c. search needs)
     returns)

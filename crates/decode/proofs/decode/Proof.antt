@@ -1,0 +1,91 @@
+-- `decode::decode` meets its contract.
+use borrow.Author.Needs.{needs}
+use mathlib.Core.Path.{_≡_, sym, _∙_}
+use native.Mathlib.Omega.{arith}
+use lib.ListN.{length, length-drop}
+use denote.Ref.{now}
+use Rattle.lists.proofs.Rest.{rest-lent}
+use Rattle.frame.specs.Header.{headerLength, headerOf}
+use Rattle.frame.specs.Read.{body, received}
+use Rattle.frame.proofs.Codewords.{read-length}
+use Rattle.replies.specs.Reply.{numberOf}
+use Rattle.replies.proofs.Answers.{refusal, success, is-refusal, is-success}
+use Rattle.decode.specs.Decode.{decodeReply, decodeOctets, decodeMoved, decodeState, decodeOut}
+use Rattle.decode.specs.Inner.{Decodable}
+use Rattle.decode.proofs.Fitness.{decode-says}
+use Rattle.decode.proofs.decode.Statement.{statement}
+use Rattle.decode.proofs.decode.Tie as tie
+
+number : (c : tie.After-decode-reply) → numberOf (c .decode-reply .result) ≡ decodeReply (c .before .before .before .before .args .s) (c .before .before .before .before .args .law) (now (c .before .before .before .before .args .frame)) (now (c .before .before .before .before .args .out))
+unfolding decodeReply
+number c = c .decode-reply .ensures ∙ rw (c .before .read-header .ensures)
+
+unfit : (c : tie.Then1) → decodeReply (c .before .before .before .before .before .before .args .s) (c .before .before .before .before .before .before .args .law) (now (c .before .before .before .before .before .before .args .frame)) (now (c .before .before .before .before .before .before .args .out)) ≡ 0 → ⊥
+unfit c = is-refusal (c .before .is-done .ensures) (number (c .before .before)) (c .if1 .taken)
+
+fit : (c : tie.Else1) → decodeReply (c .before .before .before .before .before .before .args .s) (c .before .before .before .before .before .before .args .law) (now (c .before .before .before .before .before .before .args .frame)) (now (c .before .before .before .before .before .before .args .out)) ≡ 0
+fit c = is-success (c .before .is-done .ensures) (number (c .before .before)) (c .if1 .left)
+
+-- behind the test the inputs are fit
+able : (c : tie.Else1) → Decodable (c .before .before .before .before .before .before .args .s) (headerOf (now (c .before .before .before .before .before .before .args .frame))) (length (now (c .before .before .before .before .before .before .args .frame))) (length (now (c .before .before .before .before .before .before .args .out)))
+unfolding decodeReply
+able c = decode-says _ (c .before .before .before .before .before .before .args .law) _ _ _ (fit c) .1
+
+returns : tie.Need-returns
+unfolding decodeOctets decodeMoved decodeState decodeOut
+returns c =
+    let refused = unfit c in
+    record {
+      number = number (c .before .before);
+      octets = refusal _ _ _ refused;
+      moved = refusal _ _ _ refused;
+      state = refusal _ _ _ refused;
+      out = refusal _ _ _ refused;
+    }
+
+sub-decode-into : tie.Need-sub-decode-into
+sub-decode-into c = omega (arith, able c .sound .long)
+
+part-decode-into-start : tie.Need-part-decode-into-start
+part-decode-into-start c = omega (arith, able c .sound .long)
+
+decode-into-requires : tie.Need-decode-into-requires
+unfolding headerLength
+decode-into-requires c κs =
+    let at = c .before .before in
+    let k = able at in
+    let f = now (at .before .before .before .before .before .before .args .frame) in
+    rw (at .before .before .before .read-header .ensures, rest-lent f 2)
+    (k .range, k .sound .header, k .core, simp length-drop (omega (arith, k .sound .whole)), k .space)
+
+returns-2 : tie.Need-returns-2
+unfolding headerLength body received decodeOctets decodeMoved decodeState decodeOut
+returns-2 c =
+    let at = c .before .before .before .before .before .before .before in
+    let f = now (at .before .before .before .before .before .before .args .frame) in
+    let h = at .before .before .before .read-header .ensures in
+    let n = fit at in
+    let d = rw (h, rest-lent f 2) at (c .before .before .before .before .decode-into .ensures) in
+    record {
+      number = number (at .before .before);
+      octets = c .sample-count .ensures ∙ rw h (success _ _ _ n);
+      moved = d .moved ∙ success _ _ _ n;
+      state = d .state ∙ success _ _ _ n;
+      out = d .out ∙ rw (read-length (headerOf f .width) (headerOf f .groups) (body f)) (success _ _ _ n);
+    }
+
+pub decode-spec : {M : Type 1} → statement M
+decode-spec =
+    tie.close
+    (tie.spec
+    (λ c κs. search needs)
+    (λ c κs. search needs)
+    (λ c κs. search needs)
+    returns
+    sub-decode-into
+    part-decode-into-start
+    (λ c. omega arith)
+    decode-into-requires
+    (λ c κs. search needs)
+    (λ c. search needs)
+    returns-2)

@@ -1,0 +1,76 @@
+-- `decode::decode_reply` meets its contract, row by row; the frame's own rows are passed on.
+use borrow.Author.Needs.{needs}
+use mathlib.Core.Bool.{true}
+use mathlib.Core.Path.{_≡_, sym, _∙_}
+use Prim.Native.Nat.{ℕ}
+use borrow.Author.Tests.{lt-ltb, le-ltb, eq-eqb, ne-eqb, not-true, not-false}
+use Rattle.words.specs.First.{first}
+use Rattle.words.proofs.First.{NoneApplies, first-says}
+use Rattle.state.specs.Range.{inRange}
+use Rattle.frame.specs.Rows.{frameRows}
+use Rattle.replies.specs.Reply.{isLaw}
+use Rattle.replies.proofs.Answers.{is-refusal, is-success}
+use Rattle.decode.specs.Decode.{decodeRows, decodeNumber}
+use Rattle.decode.proofs.Fitness.{decode-front, decode-behind}
+use Rattle.decode.proofs.decode_reply.Statement.{statement}
+use Rattle.decode.proofs.decode_reply.Tie as tie
+
+-- what holds behind each test
+ranged : (c : tie.Else1) → inRange (c .before .before .args .s) ≡ true
+ranged c = sym (c .before .in-range .ensures) ∙ not-false _ (c .if1 .left)
+
+lawful : (c : tie.Else2) → isLaw (c .before .before .before .before .args .law) ≡ true
+lawful c = sym (c .before .is-law .ensures) ∙ not-false _ (c .if2 .left)
+
+sound : (c : tie.Else3) → NoneApplies (frameRows (c .before .before .before .before .before .before .before .args .h) (c .before .before .before .before .before .before .before .args .length))
+sound c = first-says _ tt (is-success (c .before .is-done .ensures) (c .before .before .frame-reply .ensures) (c .if3 .left))
+
+returns : tie.Need-returns
+unfolding decodeNumber first
+returns c = rw (sym (c .before .in-range .ensures) ∙ not-true _ (c .if1 .taken))
+
+returns-2 : tie.Need-returns-2
+unfolding decodeNumber first
+returns-2 c = rw (ranged (c .before .before), sym (c .before .is-law .ensures) ∙ not-true _ (c .if2 .taken))
+
+returns-3 : tie.Need-returns-3
+returns-3 c =
+    let at = c .before .before .before in
+    let refused = is-refusal (c .before .is-done .ensures) (c .before .before .frame-reply .ensures) (c .if3 .taken) in
+    c .before .before .frame-reply .ensures ∙ sym (decode-front _ _ _ _ _ (ranged (at .before .before)) (lawful at) refused)
+
+-- the rows that are left behind the third test
+left : (c : tie.Else3) (room : ℕ)
+    → decodeNumber (c .before .before .before .before .before .before .before .args .s) (c .before .before .before .before .before .before .before .args .law) (c .before .before .before .before .before .before .before .args .h) (c .before .before .before .before .before .before .before .args .length) room
+    ≡ first (decodeRows (c .before .before .before .before .before .before .before .args .s) (c .before .before .before .before .before .before .before .args .h) room)
+left c room =
+    let at = c .before .before .before in
+    decode-behind _ _ _ _ room (ranged (at .before .before)) (lawful at) (sound c)
+
+returns-4 : tie.Need-returns-4
+unfolding first
+returns-4 c = sym (left (c .before .before .before) _ ∙ rw (ne-eqb _ _ (c .if4 .taken)))
+
+returns-5 : tie.Need-returns-5
+unfolding first
+returns-5 c = sym (left (c .before .before .before .before .before) _ ∙ rw (eq-eqb _ _ (c .before .before .if4 .left), ← c .before .sample-count .ensures, lt-ltb _ _ (c .if5 .taken)))
+
+returns-6 : tie.Need-returns-6
+unfolding first
+returns-6 c = sym (left (c .before .before .before .before .before) _ ∙ rw (eq-eqb _ _ (c .before .before .if4 .left), ← c .before .sample-count .ensures, le-ltb _ _ (c .if5 .left)))
+
+pub decode-reply-spec : {M : Type 1} → statement M
+decode-reply-spec =
+    tie.close
+    (tie.spec
+    (λ c κs. search needs)
+    returns
+    (λ c κs. search needs)
+    returns-2
+    (λ c κs. search needs)
+    (λ c κs. search needs)
+    returns-3
+    returns-4
+    (λ c κs. search needs)
+    returns-5
+    returns-6)

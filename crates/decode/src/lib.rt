@@ -1,0 +1,102 @@
+// The call decode: its reply, the work, the answer (specs/Decode.antt).
+ghost use mathlib.Core.Path.{_≡_};
+ghost use Prim.Native.Nat.{_*_, _≤_};
+ghost use lib.ListN.{length};
+ghost use Rattle.state.specs.InRange.{InRange};
+ghost use Rattle.frame.specs.Header.{sampleCount};
+ghost use Rattle.frame.specs.Read.{codewords};
+ghost use Rattle.frame.specs.Sound.{SoundHeader};
+ghost use Rattle.replies.specs.Reply.{numberOf};
+ghost use Rattle.decode.specs.Decode.{decodeNumber, Decodes};
+ghost use Rattle.decode.specs.Inner.{DecodesAll};
+use frame::header::HEADER_LENGTH;
+use frame::header::Header;
+use frame::header::frame_reply;
+use frame::header::read_header;
+use frame::header::sample_count;
+use frame::planes::codeword_at;
+use replies::Reply;
+use replies::is_done;
+use replies::is_law;
+use sample::decode_sample;
+use state::State;
+use state::in_range;
+
+pub struct DecodeAnswer {
+    pub reply: Reply,
+    pub octets: usize,
+    pub moved: usize,
+    pub state: State,
+}
+
+// What a run over a frame's codewords comes to.
+pub struct DecodedFrame {
+    pub moved: usize,
+    pub state: State,
+}
+
+pub fn decode(s: State, law: u8, frame: &[u8], out: &mut [u8]) -> DecodeAnswer
+    ensures { λ r. ⌜ Decodes s law (now (frame .entry)) (now (out .entry)) (now (out .exit)) r ⌝ }
+{
+    let h = read_header(frame);
+    let reply = decode_reply(s, law, h, frame.len(), out.len());
+    if !is_done(reply) {
+        return DecodeAnswer {
+            reply,
+            octets: 0,
+            moved: 0,
+            state: s,
+        };
+    }
+    let d = decode_into(s, law, h, &frame[HEADER_LENGTH..], out);
+    let next = d.state;
+    DecodeAnswer {
+        reply,
+        octets: sample_count(h),
+        moved: d.moved,
+        state: next,
+    }
+}
+
+fn decode_reply(s: State, law: u8, h: Header, length: usize, room: usize) -> Reply
+    ensures { λ r. ⌜ numberOf r ≡ decodeNumber s law h length room ⌝ }
+{
+    if !in_range(s) {
+        return Reply::Range;
+    }
+    if !is_law(law) {
+        return Reply::Law;
+    }
+    let reply = frame_reply(h, length);
+    if !is_done(reply) {
+        return reply;
+    }
+    if h.core != s.core {
+        return Reply::Core;
+    }
+    if room < sample_count(h) {
+        return Reply::Room;
+    }
+    Reply::Done
+}
+
+// Each sample's byte, from the frame's planes, and what the state and the moved count come to
+fn decode_into(s: State, law: u8, h: Header, planes: &[u8], out: &mut [u8]) -> DecodedFrame
+    requires { ⌜ InRange s × SoundHeader h × (h .core ≡ s .core) × (h .width * h .groups ≤ length (now planes)) × (sampleCount h ≤ length (now out)) ⌝ }
+    ensures { λ r. ⌜ DecodesAll s law (h .width) (codewords (h .width) (h .groups) (now (planes .entry))) (now (out .entry)) (now (out .exit)) r ⌝ }
+{
+    let n = sample_count(h);
+    let g = h.groups as usize;
+    let mut state = s;
+    let mut moved = 0;
+    let mut k = 0;
+    while k < n {
+        let d = decode_sample(state, law, h.width, codeword_at(planes, h.width, g, k));
+        out[k] = d.byte;
+        moved += d.moved as usize;
+        let next = d.state;
+        state = next;
+        k += 1;
+    }
+    DecodedFrame { moved, state }
+}

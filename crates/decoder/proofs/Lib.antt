@@ -1,3 +1,0 @@
-pub mod Fitness
-pub mod Playing
-pub mod Answers

@@ -1,0 +1,3 @@
+pub mod Fitness
+pub mod Encoding
+pub mod Answers

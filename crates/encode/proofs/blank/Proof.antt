@@ -1,0 +1,12 @@
+-- `encode::blank` meets its contract: there is room for the samples of the longest frame.
+use mathlib.Core.Path.{refl}
+use Rattle.frame.specs.Header.{mostGroups}
+use Rattle.encode.proofs.blank.Statement.{statement}
+use Rattle.encode.proofs.blank.Tie as tie
+
+returns : tie.Need-returns
+unfolding mostGroups
+returns c = refl
+
+pub blank-spec : {M : Type 1} → statement M
+blank-spec = tie.close (tie.spec returns)

@@ -1,0 +1,84 @@
+-- `encode::encode_reply` meets its contract, row by row.
+use borrow.Author.Needs.{needs}
+use mathlib.Core.Bool.{true}
+use mathlib.Core.Path.{_≡_, sym, _∙_}
+use native.Mathlib.Omega.{arith}
+use borrow.Author.Tests.{lt-ltb, le-ltb, not-true, not-false}
+use Rattle.words.specs.First.{first}
+use Rattle.quantizer.specs.Pair.{isPair}
+use Rattle.state.specs.Range.{inRange}
+use Rattle.frame.specs.Header.{edition, mostGroups, dueLength, isCount}
+use Rattle.frame.proofs.Sounds.{count-says}
+use Rattle.replies.specs.Reply.{isLaw}
+use Rattle.encode.specs.Encode.{encodedHeader, encodeNumber}
+use Rattle.encode.proofs.encode_reply.Statement.{statement}
+use Rattle.encode.proofs.encode_reply.Tie as tie
+
+-- what holds behind each test
+ranged : (c : tie.Else1) → inRange (c .before .before .args .s) ≡ true
+ranged c = sym (c .before .in-range .ensures) ∙ not-false _ (c .if1 .left)
+
+lawful : (c : tie.Else2) → isLaw (c .before .before .before .before .args .law) ≡ true
+lawful c = sym (c .before .is-law .ensures) ∙ not-false _ (c .if2 .left)
+
+paired : (c : tie.Else3) → isPair (c .before .before .before .before .before .before .args .width) (c .before .before .before .before .before .before .args .s .core) ≡ true
+paired c = sym (c .before .is-pair .ensures) ∙ not-false _ (c .if3 .left)
+
+counted : (c : tie.Else4) → isCount edition (c .before .before .before .before .before .before .before .before .args .n) ≡ true
+counted c = sym (c .before .is-count .ensures) ∙ not-false _ (c .if4 .left)
+
+due : (c : tie.After-due-length) → c .due-length .result ≡ dueLength (encodedHeader (c .before .before .before .before .before .before .before .before .before .before .args .s .core) (c .before .before .before .before .before .before .before .before .before .before .args .width) (c .before .before .before .before .before .before .before .before .before .before .args .n))
+due c = c .due-length .ensures ∙ rw (c .before .encoded-header .ensures)
+
+encoded-header-requires : tie.Need-encoded-header-requires
+unfolding mostGroups
+encoded-header-requires c κs = omega (arith, count-says edition (c .before .before .before .before .before .before .before .before .args .n) (counted c) .groups .high)
+
+returns : tie.Need-returns
+unfolding encodeNumber first
+returns c = rw (sym (c .before .in-range .ensures) ∙ not-true _ (c .if1 .taken))
+
+returns-2 : tie.Need-returns-2
+unfolding encodeNumber first
+returns-2 c = rw (ranged (c .before .before), sym (c .before .is-law .ensures) ∙ not-true _ (c .if2 .taken))
+
+returns-3 : tie.Need-returns-3
+unfolding encodeNumber first
+returns-3 c =
+    let at = c .before .before in
+    rw (ranged (at .before .before), lawful at, sym (c .before .is-pair .ensures) ∙ not-true _ (c .if3 .taken))
+
+returns-4 : tie.Need-returns-4
+unfolding encodeNumber first
+returns-4 c =
+    let at = c .before .before in
+    rw (ranged (at .before .before .before .before), lawful (at .before .before), paired at, sym (c .before .is-count .ensures) ∙ not-true _ (c .if4 .taken))
+
+returns-5 : tie.Need-returns-5
+unfolding encodeNumber first
+returns-5 c =
+    let at = c .before .before .before in
+    rw (ranged (at .before .before .before .before .before .before), lawful (at .before .before .before .before), paired (at .before .before), counted at, ← due (c .before), lt-ltb _ _ (c .if5 .taken))
+
+returns-6 : tie.Need-returns-6
+unfolding encodeNumber first
+returns-6 c =
+    let at = c .before .before .before in
+    rw (ranged (at .before .before .before .before .before .before), lawful (at .before .before .before .before), paired (at .before .before), counted at, ← due (c .before), le-ltb _ _ (c .if5 .left))
+
+pub encode-reply-spec : {M : Type 1} → statement M
+encode-reply-spec =
+    tie.close
+    (tie.spec
+    (λ c κs. search needs)
+    returns
+    (λ c κs. search needs)
+    returns-2
+    (λ c κs. search needs)
+    returns-3
+    (λ c κs. search needs)
+    returns-4
+    encoded-header-requires
+    (λ c κs. search needs)
+    returns-5
+    returns-6)

@@ -1,0 +1,118 @@
+// The call encode: its reply, the work, the answer (specs/Encode.antt).
+ghost use mathlib.Core.Path.{_≡_};
+ghost use Prim.Native.Nat.{_*_, _/_, _≤_};
+ghost use lib.ListN.{length};
+ghost use Rattle.quantizer.specs.Pair.{Pair};
+ghost use Rattle.state.specs.InRange.{InRange};
+ghost use Rattle.frame.specs.Header.{edition, group, mostGroups};
+ghost use Rattle.replies.specs.Reply.{numberOf};
+ghost use Rattle.encode.specs.Encode.{encodedHeader, encodeNumber, Encodes};
+ghost use Rattle.encode.specs.Inner.{Encodable, EncodesAll, EncodesFrame};
+use frame::header::EDITION;
+use frame::header::GROUP;
+use frame::header::Header;
+use frame::header::MOST_SAMPLES;
+use frame::header::due_length;
+use frame::header::is_count;
+use frame::whole::write_frame;
+use quantizer::pair::is_pair;
+use replies::Reply;
+use replies::is_done;
+use replies::is_law;
+use sample::encode_sample;
+use state::State;
+use state::in_range;
+
+pub struct EncodeAnswer {
+    pub reply: Reply,
+    pub octets: usize,
+    pub state: State,
+}
+
+pub fn encode(s: State, law: u8, width: u8, samples: &[u8], out: &mut [u8]) -> EncodeAnswer
+    ensures { λ r. ⌜ Encodes s law width (now (samples .entry)) (now (out .entry)) (now (out .exit)) r ⌝ }
+{
+    let reply = encode_reply(s, law, width, samples.len(), out.len());
+    if !is_done(reply) {
+        return EncodeAnswer {
+            reply,
+            octets: 0,
+            state: s,
+        };
+    }
+    let h = encoded_header(s.core, width, samples.len());
+    let next = encode_into(s, law, h, samples, out);
+    EncodeAnswer {
+        reply,
+        octets: due_length(h),
+        state: next,
+    }
+}
+
+fn encode_reply(s: State, law: u8, width: u8, n: usize, room: usize) -> Reply
+    ensures { λ r. ⌜ numberOf r ≡ encodeNumber s law width n room ⌝ }
+{
+    if !in_range(s) {
+        return Reply::Range;
+    }
+    if !is_law(law) {
+        return Reply::Law;
+    }
+    if !is_pair(width, s.core) {
+        return Reply::Pair;
+    }
+    if !is_count(EDITION, n) {
+        return Reply::Count;
+    }
+    if room < due_length(encoded_header(s.core, width, n)) {
+        return Reply::Room;
+    }
+    Reply::Done
+}
+
+// The header of n samples' frame
+fn encoded_header(core: u8, width: u8, n: usize) -> Header
+    requires { ⌜ n / group ≤ 255 ⌝ }
+    ensures { λ r. ⌜ r ≡ encodedHeader core width n ⌝ }
+{
+    Header {
+        edition: EDITION,
+        width,
+        core,
+        groups: (n / GROUP) as u8,
+    }
+}
+
+fn encode_into(s: State, law: u8, h: Header, samples: &[u8], out: &mut [u8]) -> State
+    requires { ⌜ Encodable s h (length (now samples)) (length (now out)) ⌝ }
+    ensures { λ r. ⌜ EncodesFrame s law h (now (samples .entry)) (now (out .entry)) (now (out .exit)) r ⌝ }
+{
+    let mut codewords = blank();
+    let next = encode_all(s, law, h.width, samples, &mut codewords);
+    let n = samples.len();
+    write_frame(&codewords[..n], h, out);
+    next
+}
+
+// The codewords of all samples, one to an octet
+fn encode_all(s: State, law: u8, width: u8, samples: &[u8], codewords: &mut [u8]) -> State
+    requires { ⌜ InRange s × Pair width (s .core) × (length (now samples) ≤ length (now codewords)) ⌝ }
+    ensures { λ r. ⌜ EncodesAll s law width (now (samples .entry)) (now (codewords .entry)) (now (codewords .exit)) r ⌝ }
+{
+    let mut state = s;
+    let mut i = 0;
+    while i < samples.len() {
+        let e = encode_sample(state, law, width, samples[i]);
+        codewords[i] = e.codeword;
+        let next = e.state;
+        state = next;
+        i += 1;
+    }
+    state
+}
+
+fn blank() -> [u8; MOST_SAMPLES]
+    ensures { λ r. ⌜ length r ≡ mostGroups edition * group ⌝ }
+{
+    [0u8; MOST_SAMPLES]
+}

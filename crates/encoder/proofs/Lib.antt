@@ -1,3 +1,0 @@
-pub mod Fitness
-pub mod Coding
-pub mod Answers
