@@ -11,10 +11,10 @@ use crate::saying::say_state;
 use crate::saying::say_wrong;
 use crate::states::state_in;
 use check::same;
-use decoder::decode;
-use dropper::drop_planes;
-use encoder::encode;
-use starter::reset;
+use decode::decode;
+use drop_planes::drop_planes;
+use encode::encode;
+use reset::reset;
 
 // The line as it is where it asks nothing, or with its answer, or what is wrong with it in its place
 pub fn answer(number: u64, line: &[u8]) {

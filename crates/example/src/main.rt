@@ -1,12 +1,12 @@
-// How the calls are used, as the README shows it: a frame is encoded, loses two planes on the way, and is heard.
+// How the calls are used, as the README shows it: a frame is encoded, loses two planes on the way, and is decoded.
 use checksum::same_state;
-use decoder::decode;
-use dropper::drop_planes;
-use encoder::encode;
+use decode::decode;
+use drop_planes::drop_planes;
+use encode::encode;
 use libc::STDOUT_FILENO;
 use replies::Reply;
 use replies::number_of;
-use starter::reset;
+use reset::reset;
 use state::State;
 
 fn main() {
@@ -24,15 +24,15 @@ fn send(near: State, far: State) {
     let n = sent.octets;
     let kept = drop_planes(&radio[..n], 3, &mut thin); // two planes thrown away: 24 kbit/s
     let m = kept.octets;
-    let heard = decode(far, 1, &thin[..m], &mut sound); // A-law out
+    let decoded = decode(far, 1, &thin[..m], &mut sound); // A-law out
     let sent_reply = sent.reply;
     let kept_reply = kept.reply;
-    let heard_reply = heard.reply;
+    let decode_reply = decoded.reply;
     tell(b"encode: reply ", sent_reply, n);
     tell(b"drop: reply ", kept_reply, m);
-    tell(b"decode: reply ", heard_reply, heard.octets);
+    tell(b"decode: reply ", decode_reply, decoded.octets);
     let after = sent.state;
-    let behind = heard.state;
+    let behind = decoded.state;
     compare(after, behind);
 }
 

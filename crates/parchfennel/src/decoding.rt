@@ -7,10 +7,9 @@ use crate::stream::pass_on;
 use crate::stream::passed;
 use crate::words::are_words;
 use crate::words::law_at;
-use decoder::decode;
-use frame::format::core_of;
-use replies::number_of;
-use starter::reset;
+use decode::decode;
+use replies::is_done;
+use reset::reset;
 use state::State;
 use text::Line;
 
@@ -51,13 +50,15 @@ fn decode_all(wish: Wish, from: Turn) {
 
 fn decode_next(wish: Wish, turn: Turn, frame: u64) -> Turn {
     let mut octets = io::buffer();
-    let n = next_frame(&mut octets, frame, turn.octet);
+    let found = next_frame(&mut octets, frame, turn.octet);
+    let n = found.octets;
     if n == 0 {
         return ended(turn);
     }
     let s = turn.state;
-    let state = state_at(frame, octets[0], s);
-    hear(
+    let header = found.header;
+    let state = state_at(frame, header.core, s);
+    decode_frame(
         wish,
         Turn {
             more: true,
@@ -70,29 +71,28 @@ fn decode_next(wish: Wish, turn: Turn, frame: u64) -> Turn {
 }
 
 // Before the first frame the state is reset, to the core that its header has
-fn state_at(frame: u64, first: u8, s: State) -> State {
+fn state_at(frame: u64, core: u8, s: State) -> State {
     if 0 < frame {
         return s;
     }
-    let started = reset(core_of(first));
+    let started = reset(core);
     let state = started.state;
     state
 }
 
 // The octets are written and the state goes on, or the tool stops
-fn hear(wish: Wish, turn: Turn, frame: u64, octets: &[u8]) -> Turn {
+fn decode_frame(wish: Wish, turn: Turn, frame: u64, octets: &[u8]) -> Turn {
     let state = turn.state;
     let mut out = io::buffer();
-    let heard = decode(state, wish.law, octets, &mut out);
-    let reply = heard.reply;
-    let number = number_of(reply);
+    let answer = decode(state, wish.law, octets, &mut out);
+    let reply = answer.reply;
     let made = Line {
         octets: out,
-        count: heard.octets,
+        count: answer.octets,
     };
-    let more = pass_on(frame, turn.octet, number, made);
-    let next = heard.state;
-    if wish.verbose & (number == 0) {
+    let more = pass_on(frame, turn.octet, reply, made);
+    let next = answer.state;
+    if wish.verbose & is_done(reply) {
         show_state(frame, next);
     }
     Turn {

@@ -6,8 +6,7 @@ use crate::stream::passed;
 use crate::words::are_words;
 use crate::words::number_at;
 use crate::words::octet_of;
-use dropper::drop_planes;
-use replies::number_of;
+use drop_planes::drop_planes;
 use text::Line;
 
 pub fn run(verbose: bool) {
@@ -36,24 +35,25 @@ fn drop_all(width: u8) {
 
 fn drop_next(width: u8, frame: u64, octet: u64) -> Pass {
     let mut octets = io::buffer();
-    let n = next_frame(&mut octets, frame, octet);
+    let found = next_frame(&mut octets, frame, octet);
+    let n = found.octets;
     if n == 0 {
         return Pass { more: false, octet };
     }
-    thin(width, frame, octet, &octets[..n])
+    drop_frame(width, frame, octet, &octets[..n])
 }
 
 // The frame is written with fewer planes, or the tool stops
-fn thin(width: u8, frame: u64, octet: u64, octets: &[u8]) -> Pass {
+fn drop_frame(width: u8, frame: u64, octet: u64, octets: &[u8]) -> Pass {
     let mut out = io::buffer();
-    let dropped = drop_planes(octets, width, &mut out);
-    let reply = dropped.reply;
+    let answer = drop_planes(octets, width, &mut out);
+    let reply = answer.reply;
     let made = Line {
         octets: out,
-        count: dropped.octets,
+        count: answer.octets,
     };
     Pass {
-        more: pass_on(frame, octet, number_of(reply), made),
+        more: pass_on(frame, octet, reply, made),
         octet: passed(octet, octets),
     }
 }

@@ -15,10 +15,11 @@ use crate::words::is_there;
 use crate::words::law_at;
 use crate::words::number_at;
 use crate::words::octet_of;
-use encoder::encode;
-use frame::format::GROUP;
-use replies::number_of;
-use starter::reset;
+use encode::encode;
+use frame::header::GROUP;
+use replies::Reply;
+use replies::is_done;
+use reset::reset;
 use state::State;
 use text::Line;
 use text::within;
@@ -75,14 +76,13 @@ fn begin(plan: Plan, core: u8) {
     let started = reset(core);
     let state = started.state;
     let reply = started.reply;
-    let wrong = number_of(reply);
-    if wrong != 0 {
-        refuse(0, 0, wrong);
+    if !is_done(reply) {
+        refuse(0, 0, reply);
         return;
     }
-    let number = tried(plan, state);
-    if number != 0 {
-        refuse(0, 0, number);
+    let wrong = tried(plan, state);
+    if !is_done(wrong) {
+        refuse(0, 0, wrong);
         return;
     }
     let turn = Turn {
@@ -93,13 +93,13 @@ fn begin(plan: Plan, core: u8) {
     encode_all(plan, turn);
 }
 
-fn tried(plan: Plan, s: State) -> u8 {
+fn tried(plan: Plan, s: State) -> Reply {
     let samples = io::buffer();
     let n = within(plan.samples, &samples);
     let mut out = io::buffer();
-    let coded = encode(s, plan.law, plan.width, &samples[..n], &mut out);
-    let reply = coded.reply;
-    number_of(reply)
+    let answer = encode(s, plan.law, plan.width, &samples[..n], &mut out);
+    let reply = answer.reply;
+    reply
 }
 
 // A proved loop has to end, and nothing says that a stream does: it ends before a frame whose index no run reaches.
@@ -123,7 +123,7 @@ fn encode_next(plan: Plan, turn: Turn, frame: u64) -> Turn {
         say_filled(frame, turn.octet, lacking);
     }
     let n = within(std::num::wrapping_add_usize(got, lacking), &samples);
-    send(plan, turn, frame, &samples[..n])
+    encode_frame(plan, turn, frame, &samples[..n])
 }
 
 // What is not read over stays silent, so that the last frame is filled up with it
@@ -137,19 +137,18 @@ fn silence(law: u8) -> [u8; 4096]
 }
 
 // The frame is written and the state goes on, or the tool stops
-fn send(plan: Plan, turn: Turn, frame: u64, samples: &[u8]) -> Turn {
+fn encode_frame(plan: Plan, turn: Turn, frame: u64, samples: &[u8]) -> Turn {
     let state = turn.state;
     let mut out = io::buffer();
-    let coded = encode(state, plan.law, plan.width, samples, &mut out);
-    let reply = coded.reply;
-    let number = number_of(reply);
+    let answer = encode(state, plan.law, plan.width, samples, &mut out);
+    let reply = answer.reply;
     let made = Line {
         octets: out,
-        count: coded.octets,
+        count: answer.octets,
     };
-    let more = pass_on(frame, turn.octet, number, made);
-    let next = coded.state;
-    if plan.verbose & (number == 0) {
+    let more = pass_on(frame, turn.octet, reply, made);
+    let next = answer.state;
+    if plan.verbose & is_done(reply) {
         show_state(frame, next);
     }
     Turn {

@@ -4,10 +4,8 @@ use crate::stream::next_frame;
 use crate::stream::pass_on;
 use crate::stream::passed;
 use crate::words::are_words;
-use frame::format::core_of;
-use frame::format::edition_of;
-use frame::format::width_of;
-use frame::format::wrong_with;
+use frame::header::Header;
+use frame::header::frame_reply;
 use text::Line;
 
 pub fn run(verbose: bool) {
@@ -31,27 +29,27 @@ fn inspect_all() {
 
 fn inspect_next(frame: u64, octet: u64) -> Pass {
     let mut octets = io::buffer();
-    let n = next_frame(&mut octets, frame, octet);
+    let found = next_frame(&mut octets, frame, octet);
+    let n = found.octets;
     if n == 0 {
         return Pass { more: false, octet };
     }
-    let number = wrong_with(&octets[..n]);
-    let shown = line_of(frame, octets[0], octets[1], n);
+    let header = found.header;
+    let reply = frame_reply(header, n);
     Pass {
-        more: pass_on(frame, octet, number, shown),
+        more: pass_on(frame, octet, reply, line_of(frame, header, n)),
         octet: passed(octet, &octets[..n]),
     }
 }
 
-fn line_of(frame: u64, first: u8, g: u8, octets: usize) -> Line {
-    let groups = g as u64;
+fn line_of(frame: u64, header: Header, octets: usize) -> Line {
     let count = octets as u64;
     Line::empty()
         .number(frame)
-        .next(edition_of(first) as u64)
-        .next(width_of(first) as u64)
-        .next(core_of(first) as u64)
-        .next(groups)
+        .next(header.edition as u64)
+        .next(header.width as u64)
+        .next(header.core as u64)
+        .next(header.groups as u64)
         .next(count)
         .octet(b'\n')
 }

@@ -1,16 +1,18 @@
 // What is said on standard error: a refusal, a wrong call, samples filled up, and with -v the state after each frame.
 use crate::words::place;
 use libc::STDERR_FILENO;
+use replies::Reply;
+use replies::number_of;
 use state::State;
 use text::Line;
 use text::within;
 
 // A reply other than 0: which frame, where it begins in the stream, and the row of the table of replies
-pub fn refuse(frame: u64, octet: u64, number: u8) {
+pub fn refuse(frame: u64, octet: u64, reply: Reply) {
     named(frame, octet)
         .text(b": refused with ")
         .row(
-            number,
+            number_of(reply),
             b"0: done\n\
             1: width or core not one of the nine pairs\n\
             2: sample count not a multiple of 8 from 8 to 320, or g not 1 to 40\n\

@@ -3,21 +3,25 @@
 ghost use Rattle.io.specs.Counts.{Counts};
 use crate::report::refuse;
 use crate::report::say_cut;
-use frame::format::EDITION;
-use frame::format::HEADER_LENGTH;
-use frame::format::bad_groups;
-use frame::format::bad_pair;
-use frame::format::core_of;
-use frame::format::edition_of;
-use frame::format::frame_length;
-use frame::format::width_of;
-use frame::format::wrong_with;
+use frame::header::FEWEST;
+use frame::header::Header;
+use frame::header::due_length;
+use frame::header::header_reply;
+use frame::header::read_header;
 use libc::STDIN_FILENO;
 use libc::STDOUT_FILENO;
+use replies::Reply;
+use replies::is_done;
 use state::State;
 use text::Line;
 use text::least;
 use text::within;
+
+// A frame in the buffer: how many octets it has, and its header
+pub struct Found {
+    pub octets: usize,
+    pub header: Header,
+}
 
 // After a frame that leaves no state: whether there may be a next one, and where it begins in the stream
 pub struct Pass {
@@ -69,57 +73,35 @@ fn read_once(part: &mut [u8]) -> usize
 }
 
 // The next frame at the start of the buffer: 0 octets where the stream has ended, or ends inside the frame, which is said
-pub fn next_frame(buf: &mut [u8], frame: u64, octet: u64) -> usize
-    ensures { λ r. ⌜ Counts r (now (buf .exit)) ⌝ }
+pub fn next_frame(buf: &mut [u8], frame: u64, octet: u64) -> Found
+    ensures { λ r. ⌜ Counts (r .octets) (now (buf .exit)) ⌝ }
 {
-    let n = read_frame(buf);
-    if n == 0 {
-        return n;
+    let head = read_part(buf, 0, FEWEST);
+    let header = read_header(&buf[..head]);
+    if head == 0 {
+        return Found { octets: 0, header };
     }
-    if is_cut(&buf[..n]) {
-        say_cut(frame, octet, n);
-        return 0;
+    let due = octets_due(header);
+    let octets = read_part(buf, head, due);
+    if octets < due {
+        say_cut(frame, octet, octets);
+        return Found { octets: 0, header };
     }
-    n
+    Found { octets, header }
 }
 
-// A frame's octets at the start of the buffer: fewer than the header calls for where the stream ends, and none at its
-// end. Of a header that is itself wrong nothing follows: no call looks further.
-fn read_frame(buf: &mut [u8]) -> usize
-    ensures { λ r. ⌜ Counts r (now (buf .exit)) ⌝ }
-{
-    let head = read_part(buf, 0, HEADER_LENGTH);
-    if head < HEADER_LENGTH {
-        return head;
+// Of a header that is itself wrong nothing is read on: no call looks further
+fn octets_due(header: Header) -> usize {
+    if is_done(header_reply(header)) {
+        return due_length(header);
     }
-    let end = end_of(buf[0], buf[1]);
-    read_part(buf, HEADER_LENGTH, end)
-}
-
-// How long the frame is that begins with these two octets
-fn end_of(first: u8, g: u8) -> usize {
-    if edition_of(first) != EDITION {
-        return HEADER_LENGTH;
-    }
-    let x = width_of(first);
-    if bad_pair(x, core_of(first)) | bad_groups(g) {
-        return HEADER_LENGTH;
-    }
-    frame_length(x, g as usize)
-}
-
-// Whether the stream ended inside the frame
-fn is_cut(frame: &[u8]) -> bool {
-    if frame.len() < HEADER_LENGTH {
-        return true;
-    }
-    wrong_with(frame) == 6
+    FEWEST
 }
 
 // What a call made of the frame is written, or why it refused is said. Answers whether there may be a next frame.
-pub fn pass_on(frame: u64, octet: u64, number: u8, made: Line) -> bool {
-    if number != 0 {
-        refuse(frame, octet, number);
+pub fn pass_on(frame: u64, octet: u64, reply: Reply, made: Line) -> bool {
+    if !is_done(reply) {
+        refuse(frame, octet, reply);
         return false;
     }
     let written = made.write(STDOUT_FILENO);

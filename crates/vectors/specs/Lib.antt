@@ -1,3 +1,2 @@
 pub mod Inputs
-pub mod Pairs
 pub mod Ready

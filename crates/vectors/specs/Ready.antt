@@ -2,15 +2,15 @@
 use mathlib.Core.Path.{_≡_}
 use Prim.Native.Nat.{ℕ}
 use Rattle.quantizer.specs.Codeword.{Codeword}
+use Rattle.quantizer.specs.Pair.{Pair}
 use Rattle.state.specs.declared.State.{State}
 use Rattle.state.specs.InRange.{InRange}
 use Rattle.sample.specs.declared.Encoded.{Encoded}
-use Rattle.sample.specs.Pair.{Pair}
 use Rattle.vectors.specs.declared.drive.Track.{Track}
 
 pub record Kept (width : ℕ) (s : State) : Type 0 where
   pub range : InRange s
-  pub pair : Pair s width
+  pub pair : Pair width (s .core)
 
 pub record Ready (width : ℕ) (t : Track) : Type 0 where
   pub encoder : Kept width (t .encoder)

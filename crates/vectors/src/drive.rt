@@ -3,7 +3,7 @@ ghost use Prim.Native.Nat.{_≤_};
 ghost use lib.ListN.{length};
 ghost use Rattle.vectors.specs.Inputs.{inputOctets};
 ghost use Rattle.quantizer.specs.Codeword.{Width, Codeword};
-ghost use Rattle.vectors.specs.Pairs.{NinePairs};
+ghost use Rattle.quantizer.specs.Pair.{Pair};
 ghost use Rattle.vectors.specs.Ready.{Ready, Begun, Sent};
 use crate::codewords::held;
 use crate::codewords::input_at;
@@ -36,7 +36,7 @@ pub struct Track {
 }
 
 pub fn perform(run: Run, pcm: &[u8], dumped: bool) -> Track
-    requires { ⌜ NinePairs (run .width) (run .core) ⌝ }
+    requires { ⌜ Pair (run .width) (run .core) ⌝ }
     requires { ⌜ inputOctets ≤ length (now pcm) ⌝ }
 {
     let t = started(run, pcm);
@@ -61,7 +61,7 @@ fn input_of(kind: Kind) -> usize
 
 // From reset, and homed where the run asks it
 fn started(run: Run, pcm: &[u8]) -> Track
-    requires { ⌜ NinePairs (run .width) (run .core) ⌝ }
+    requires { ⌜ Pair (run .width) (run .core) ⌝ }
     requires { ⌜ inputOctets ≤ length (now pcm) ⌝ }
     ensures { λ r. ⌜ Ready (run .width) r ⌝ }
 {

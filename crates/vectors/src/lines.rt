@@ -1,5 +1,5 @@
 // The lines that are written: one for each sequence, or in a dump one for each sample (docs/SEQUENCES.md).
-ghost use Rattle.vectors.specs.Pairs.{NinePairs};
+ghost use Rattle.quantizer.specs.Pair.{Pair};
 use crate::drive::Track;
 use crate::names::named;
 use crate::runs::Kind;
@@ -19,7 +19,7 @@ pub struct Note {
 }
 
 pub fn write_run(run: Run, t: Track)
-    requires { ⌜ NinePairs (run .width) (run .core) ⌝ }
+    requires { ⌜ Pair (run .width) (run .core) ⌝ }
 {
     let kind = run.kind;
     summed(named(run), kind, t)

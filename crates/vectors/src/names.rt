@@ -1,5 +1,5 @@
 // The names of the sequences, made as in 004: R or H, the input, x and y of the pair, and the laws.
-ghost use Rattle.vectors.specs.Pairs.{NinePairs};
+ghost use Rattle.quantizer.specs.Pair.{Pair};
 use crate::runs::Kind;
 use crate::runs::Run;
 use libc::STDERR_FILENO;
@@ -7,7 +7,7 @@ use text::Line;
 use text::within;
 
 pub fn named(run: Run) -> Line
-    requires { ⌜ NinePairs (run .width) (run .core) ⌝ }
+    requires { ⌜ Pair (run .width) (run .core) ⌝ }
 {
     let kind = run.kind;
     let width = b'0' + run.width;
@@ -51,7 +51,7 @@ fn law_letter(laws: usize) -> u8 {
 }
 
 pub fn is_named(run: Run, given: &[u8]) -> bool
-    requires { ⌜ NinePairs (run .width) (run .core) ⌝ }
+    requires { ⌜ Pair (run .width) (run .core) ⌝ }
 {
     let name = named(run);
     let octets = name.octets;

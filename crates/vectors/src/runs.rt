@@ -1,7 +1,7 @@
 // The 189 runs of docs/SEQUENCES.md, by their place in its order: all R, then all H, then the jumps, then the held
 // codeword. Within R and H the inputs N, V and I, within these the pairs, within a pair the laws M, A, C and X, or M and A.
 ghost use Prim.Native.Nat.{_<_, _≤_};
-ghost use Rattle.vectors.specs.Pairs.{NinePairs};
+ghost use Rattle.quantizer.specs.Pair.{Pair};
 
 pub const RUNS: usize = 189;
 
@@ -26,7 +26,7 @@ const PAIRS: [u8; 9] = [52, 42, 32, 22, 53, 43, 33, 54, 44];
 
 pub fn run_at(k: usize) -> Run
     requires { ⌜ k < 189 ⌝ }
-    ensures { λ r. ⌜ NinePairs (r .width) (r .core) ⌝ }
+    ensures { λ r. ⌜ Pair (r .width) (r .core) ⌝ }
 {
     if 186 <= k {
         return held((k - 186) as u8 + 2);
@@ -39,20 +39,20 @@ pub fn run_at(k: usize) -> Run
 
 fn sequence_at(homed: bool, j: usize) -> Run
     requires { ⌜ j < 90 ⌝ }
-    ensures { λ r. ⌜ NinePairs (r .width) (r .core) ⌝ }
+    ensures { λ r. ⌜ Pair (r .width) (r .core) ⌝ }
 {
     if j < 36 {
-        return paired(homed, Kind::Normal, j / 4, j % 4);
+        return run_of(homed, Kind::Normal, j / 4, j % 4);
     }
     if j < 72 {
-        return paired(homed, Kind::Overload, (j - 36) / 4, j % 4);
+        return run_of(homed, Kind::Overload, (j - 36) / 4, j % 4);
     }
-    paired(homed, Kind::Codewords, (j - 72) / 2, j % 2)
+    run_of(homed, Kind::Codewords, (j - 72) / 2, j % 2)
 }
 
-fn paired(homed: bool, kind: Kind, p: usize, laws: usize) -> Run
+fn run_of(homed: bool, kind: Kind, p: usize, laws: usize) -> Run
     requires { ⌜ p < 9 ⌝ }
-    ensures { λ r. ⌜ NinePairs (r .width) (r .core) ⌝ }
+    ensures { λ r. ⌜ Pair (r .width) (r .core) ⌝ }
 {
     let pair = PAIRS[p];
     Run {
@@ -67,7 +67,7 @@ fn paired(homed: bool, kind: Kind, p: usize, laws: usize) -> Run
 // At the widest of each core's pairs, under M and under A
 fn jump(j: usize) -> Run
     requires { ⌜ j < 6 ⌝ }
-    ensures { λ r. ⌜ NinePairs (r .width) (r .core) ⌝ }
+    ensures { λ r. ⌜ Pair (r .width) (r .core) ⌝ }
 {
     Run {
         homed: false,
@@ -79,8 +79,8 @@ fn jump(j: usize) -> Run
 }
 
 fn held(core: u8) -> Run
-    requires { ⌜ NinePairs core core ⌝ }
-    ensures { λ r. ⌜ NinePairs (r .width) (r .core) ⌝ }
+    requires { ⌜ Pair core core ⌝ }
+    ensures { λ r. ⌜ Pair (r .width) (r .core) ⌝ }
 {
     Run {
         homed: false,

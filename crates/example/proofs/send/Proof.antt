@@ -2,15 +2,15 @@
 use borrow.Author.Needs.{needs}
 use native.Mathlib.Omega.{arith}
 use lib.ListN.{length-take}
-use Rattle.encoder.proofs.Answers.{encode-room}
-use Rattle.dropper.proofs.Answers.{drop-room}
+use Rattle.encode.proofs.Answers.{encode-room}
+use Rattle.drop_planes.proofs.Answers.{drop-room}
 use Rattle.example.proofs.send.Statement.{statement}
 use Rattle.example.proofs.send.Tie as tie
 use Rattle.example.proofs.send.Reads as reads
 use Rattle.example.proofs.send.Lts as lts
-use Rattle.encoder.proofs.encode.Reads as encode-reads
-use Rattle.decoder.proofs.decode.Reads as decode-reads
-use Rattle.dropper.proofs.drop_planes.Reads as drop-planes-reads
+use Rattle.encode.proofs.encode.Reads as encode-reads
+use Rattle.decode.proofs.decode.Reads as decode-reads
+use Rattle.drop_planes.proofs.drop_planes.Reads as drop-planes-reads
 use Rattle.example.proofs.compare.Reads as compare-reads
 use Rattle.example.proofs.tell.Reads as tell-reads
 
