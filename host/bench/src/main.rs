@@ -1,7 +1,7 @@
-//! bench time|count SECONDS SAMPLES TOOL DOUBLE [SPANDSP]: encodes and decodes SECONDS of the speech
+//! bench time|count SECONDS SAMPLES TOOL SECOND [SPANDSP]: encodes and decodes SECONDS of the speech
 //! in the folder SAMPLES with each program, and prints how long each takes and the ratios, or how
 //! many instructions. A program is given by its words with single spaces between them; to count,
-//! they begin with a counter. Octets that differ between the tool and the double end it with 1.
+//! they begin with a counter. Octets that differ between the tool and the second tool end it with 1.
 
 mod job;
 mod measure;
@@ -16,7 +16,7 @@ use std::path::Path;
 use std::process::ExitCode;
 use std::{env, fs};
 
-const HOW: &str = "called as: bench time|count SECONDS SAMPLES TOOL DOUBLE [SPANDSP]";
+const HOW: &str = "called as: bench time|count SECONDS SAMPLES TOOL SECOND [SPANDSP]";
 const TITLES: [&str; 3] = ["tool", "second codec", "spandsp"];
 
 fn main() -> ExitCode {
@@ -61,7 +61,7 @@ fn row(job: &Job, measure: Measure, programs: &[Program], speech: &[u8]) -> Resu
     for (verb, measured) in [("encode", &encoded), ("decode", &decoded)] {
         let title = job.title(verb);
         if measured[0].octets != measured[1].octets {
-            return Err(format!("{title}: tool and double differ"));
+            return Err(format!("{title}: tool and second tool differ"));
         }
         table::print(&title, &able, measured, speech.len(), measure);
     }

@@ -22,11 +22,11 @@ pub const WITNESSES: [Witness; 3] = [
     },
     Witness {
         name: "runs",
-        build: &["-p", "runs", "-p", "double"],
+        build: &["-p", "runs", "-p", "second-tool"],
         run: &[
             "target/release/runs",
             "runs/stored",
-            "target/release/double",
+            "target/release/second-tool",
         ],
     },
 ];

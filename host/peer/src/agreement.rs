@@ -4,7 +4,7 @@
 use crate::inputs::{self, Signal};
 use crate::spandsp::{Peer, CORE};
 use crate::speech;
-use draws::Random;
+use random::Random;
 use second::g711::Law;
 use second::sample;
 use second::state::State;

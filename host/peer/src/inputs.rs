@@ -1,8 +1,8 @@
 //! What is fed to both codecs: tones, noise and random bytes for the encoders, random and held
 //! codes for the decoders, and states drawn from the table of ranges.
 
-use draws::states::any_state;
-use draws::Random;
+use random::states::any_state;
+use random::Random;
 use second::g711::{compress, Law};
 use second::state::State;
 use std::f64::consts::TAU;

@@ -1,8 +1,8 @@
 //! Which differences a codeword allows: each difference one codeword, the thinned codeword at
 //! least as much, and the places where what is allowed is not what one would expect.
 
-use draws::states::any_state;
-use draws::Random;
+use random::states::any_state;
+use random::Random;
 use second::engine::estimate;
 use second::quantizer::{quantize, reconstruct, thinned};
 use second::sample::allows;

@@ -2,8 +2,8 @@
 //! Streams from reset never come near most states of the table of ranges; this comparison draws
 //! its states from the whole table. Masks that the scan lost are those of G.726.
 
-use draws::states::{any_state, PAIRS};
-use draws::Random;
+use random::states::{any_state, PAIRS};
+use random::Random;
 use second::engine::{advance, estimate};
 use second::g711::{compress, expand, Law};
 use second::quantizer;

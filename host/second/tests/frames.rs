@@ -1,7 +1,7 @@
 //! The worked frames, and packing, unpacking and dropping over every pair and many lengths.
 
-use draws::states::PAIRS;
-use draws::Random;
+use random::states::PAIRS;
+use random::Random;
 use second::calls::drop_planes;
 use second::frame::{pack, read_header, unpack, Header};
 

@@ -4,8 +4,8 @@
 
 mod support;
 
-use draws::states::{any_state, PAIRS};
-use draws::Random;
+use random::states::{any_state, PAIRS};
+use random::Random;
 use second::engine::{advance, estimate, Estimate};
 use second::g711::{compress, expand, Law};
 use second::logarithm::normalized_log;

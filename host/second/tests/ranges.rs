@@ -1,8 +1,8 @@
 //! The table of ranges row by row, the law that a step from a state in range ends in range, and
 //! the bounds that the signed engine rests on.
 
-use draws::states::any_state;
-use draws::Random;
+use random::states::any_state;
+use random::Random;
 use second::calls;
 use second::engine::{advance, estimate};
 use second::quantizer::reconstruct;

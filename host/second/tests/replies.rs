@@ -1,8 +1,8 @@
 //! Every reply of every call, the order of the rows where two or more apply, the limit cases,
 //! and that a refused call writes nothing and keeps the state.
 
-use draws::states::PAIRS;
-use draws::Random;
+use random::states::PAIRS;
+use random::Random;
 use second::calls::{decode, drop_planes, encode, reset};
 use second::state::State;
 

@@ -1,8 +1,8 @@
 //! Whole streams: a decoder's state stays the encoder's while planes are dropped at random and
 //! the width changes from frame to frame, and a held codeword takes a coefficient past 32,767.
 
-use draws::states::PAIRS;
-use draws::Random;
+use random::states::PAIRS;
+use random::Random;
 use second::calls::{self, decode, drop_planes, encode};
 use second::frame::{read_header, unpack};
 use second::g711::{compress, Law};

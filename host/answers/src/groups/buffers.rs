@@ -3,7 +3,7 @@
 use super::parts::{decode, drop, encode, frame_octets, head, octets, room, samples};
 use crate::due::Due;
 use crate::page::Page;
-use draws::states::PAIRS;
+use random::states::PAIRS;
 use second::state::State;
 
 pub fn buffers(page: &mut Page) {

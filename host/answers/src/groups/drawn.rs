@@ -4,8 +4,8 @@ use super::parts::{decode, drop, encode, frame, frame_octets};
 use super::states::likely_state;
 use crate::call::Call;
 use crate::page::Page;
-use draws::states::{any_state, coefficient, PAIRS};
-use draws::Random;
+use random::states::{any_state, coefficient, PAIRS};
+use random::Random;
 use second::state::State;
 
 const SEED: u64 = 14;

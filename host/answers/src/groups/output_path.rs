@@ -4,8 +4,8 @@
 use super::parts::{decode_fitting, frame};
 use super::states::{at_scale, drawn_codewords, likely_state};
 use crate::page::Page;
-use draws::states::{any_state, PAIRS};
-use draws::Random;
+use random::states::{any_state, PAIRS};
+use random::Random;
 use second::engine::estimate;
 use second::g711::{expand, Law};
 use second::quantizer::reconstruct;

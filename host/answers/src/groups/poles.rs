@@ -4,7 +4,7 @@
 use super::parts::{decode_fitting, frame};
 use super::states::{at_scale, drawn_codewords};
 use crate::page::Page;
-use draws::Random;
+use random::Random;
 use second::engine::{advance, estimate};
 use second::quantizer::reconstruct;
 use second::state::State;

@@ -3,8 +3,8 @@
 use super::parts::{decode_fitting, encode_fitting, frame};
 use super::states::{at_scale, drawn_codewords};
 use crate::page::Page;
-use draws::states::{any_state, coefficient, PAIRS};
-use draws::Random;
+use random::states::{any_state, coefficient, PAIRS};
+use random::Random;
 use second::state::State;
 
 /// Coefficients about the powers of two as FMULT sees them, four times as great, and the lowest words.

@@ -4,8 +4,8 @@
 use super::parts::{decode_fitting, encode_fitting, frame, pattern};
 use super::states::{at_scale, drawn_codewords};
 use crate::page::Page;
-use draws::states::PAIRS;
-use draws::Random;
+use random::states::PAIRS;
+use random::Random;
 use second::g711::{expand, Law};
 
 /// Tables 8 to 11: where each magnitude begins on the scale of the normalized logarithm. Width 5 has those of all widths.

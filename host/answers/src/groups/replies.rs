@@ -4,7 +4,7 @@ use super::parts::{decode, drop, encode, head, octets, room, samples, unfit};
 use crate::call::Call;
 use crate::due::Due;
 use crate::page::Page;
-use draws::states::PAIRS;
+use random::states::PAIRS;
 use second::state::State;
 
 pub fn replies(page: &mut Page) {

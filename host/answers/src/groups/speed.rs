@@ -5,8 +5,8 @@
 use super::parts::{decode_fitting, frame};
 use super::states::{at_scale, drawn_codewords};
 use crate::page::Page;
-use draws::states::{any_state, bit};
-use draws::Random;
+use random::states::{any_state, bit};
+use random::Random;
 use second::state::State;
 
 /// One frame of 8 samples at the core's own width, with a first codeword.

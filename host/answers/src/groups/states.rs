@@ -1,8 +1,8 @@
 //! States of the groups that go to the edges of the sub-blocks: one quantity is set, and the rest is at reset or drawn from the
 //! whole table of ranges with its corners favoured.
 
-use draws::states::any_state;
-use draws::Random;
+use random::states::any_state;
+use random::Random;
 use second::state::State;
 
 /// AP at its greatest lets YU alone be the scale factor: Y is then `y`.

@@ -3,7 +3,7 @@
 
 use super::parts::{decode_fitting, drop, encode_fitting, frame, frame_octets};
 use crate::page::Page;
-use draws::Random;
+use random::Random;
 use second::calls;
 use second::g711::{compress, Law};
 use second::state::State;

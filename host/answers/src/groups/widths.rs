@@ -6,7 +6,7 @@ use super::parts::{
 };
 use crate::due::Due;
 use crate::page::Page;
-use draws::states::PAIRS;
+use random::states::PAIRS;
 use second::calls;
 use second::state::State;
 

@@ -1,5 +1,6 @@
-//! The tool's double: its words, octets and lines, made of the second codec. Stored runs are held
-//! to both, and measurements are taken of both. Unlike the tool it ends with 1 where it refuses.
+//! The second tool: the words, octets and lines of the proved one, made of the second codec. Stored
+//! runs are held to both, and measurements are taken of both. Unlike the proved tool it ends with 1
+//! where it refuses.
 
 mod call;
 mod commands;
