@@ -1,4 +1,4 @@
-//! What 01 says of a call's answer, whoever gives it. A refusal it says whole; a success in part.
+//! What the rules (docs/RULES.md) say of a call's answer, whoever gives it. A refusal they say whole; a success in part.
 
 use crate::call::Call;
 use crate::fields::{octets, state, write_octets, write_state};
@@ -15,7 +15,7 @@ pub enum Due {
     Out(Vec<u8>),
     /// Done, and the frame's first codeword, of five bits, is this.
     First(u8),
-    /// EXPAND's word, the octet above and the octet below, where 01 has them.
+    /// EXPAND's word, the octet above and the octet below, where the rules have them.
     Level(Option<u16>, Option<u8>, Option<u8>),
 }
 
@@ -108,7 +108,7 @@ fn same<T: PartialEq + std::fmt::Debug>(what: &str, found: &T, due: &T) -> Resul
     Err(format!("{what} {found:?}, where {due:?} is due"))
 }
 
-/// What 01 says of every answer: a refusal reports nothing, writes nothing and keeps the state; a success writes as many
+/// What the rules say of every answer: a refusal reports nothing, writes nothing and keeps the state; a success writes as many
 /// octets as the call's own form says, and the buffer beyond them stays.
 fn hold_always(call: &Call, found: &Parts) -> Result<(), String> {
     let (out, kept) = handed_in(call);

@@ -39,7 +39,7 @@ impl Page {
         self.items.push(Item::Note(text.into()));
     }
 
-    /// A call of which 01 does not say the answer: the second codec's is stored.
+    /// A call of which the rules do not say the answer: the second codec's is stored.
     pub fn ask(&mut self, call: Call) {
         self.due(Due::Open, call);
     }

@@ -1,4 +1,4 @@
-//! The stored lines, judged: by 01 where it says what is due, and by each other where a law ties them. The answers are read
+//! The stored lines, judged: by the rules where they say what is due, and by each other where a law ties them. The answers are read
 //! from the file to which the proved program is held.
 
 use answers::call::Call;
@@ -59,7 +59,7 @@ fn what_01_says_is_stored() {
     }
 }
 
-/// 01: the greatest level of A-law is 8,064, that of mu-law 8,031.
+/// By the rules the greatest level of A-law is 8,064, that of mu-law 8,031.
 #[test]
 fn the_greatest_levels() {
     let stored = stored();

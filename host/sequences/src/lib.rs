@@ -1,6 +1,7 @@
 //! Stand-ins for the ITU's test sequences of G.727, which could not be had: how they are made, the
 //! second codec's answers to them, and the comparison with another codec's answers.
-//! docs/SEQUENCES.md describes all of it. 004 is the ITU's description of its own sequences.
+//! docs/SEQUENCES.md describes all of it. "The description" is the ITU's, of its own sequences
+//! (docs/RULES.md, "Sources").
 
 pub mod checksum;
 pub mod codewords;

@@ -1,4 +1,5 @@
-//! The magnitudes of the I-inputs: Tables 9 to 12 of 004, one for each width of codeword.
+//! The magnitudes of the I-inputs: the description's Tables 9 to 12, one for each width of
+//! codeword.
 
 /// Sixteen of the first magnitude, sixteen of the second, and so on in turn.
 pub struct Run {

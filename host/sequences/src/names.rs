@@ -1,4 +1,5 @@
-//! Which sequences there are, in the order of the lines, and their names (004, section 5).
+//! Which sequences there are, in the order of the lines, and their names (the description,
+//! section 5).
 
 use second::g711::Law;
 
@@ -29,7 +30,7 @@ pub struct Sequence {
     pub law_out: Law,
 }
 
-/// Width and core, in 004's order.
+/// Width and core, in the description's order.
 pub const PAIRS: [(u8, u8); 9] = [
     (5, 2),
     (4, 2),

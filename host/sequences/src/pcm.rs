@@ -1,6 +1,6 @@
-//! The four PCM inputs as levels: for normal operation (004, section 6.1), for overload (6.2), for
-//! homing (6.4.1), and the jumps, which are no sequence of 004. 004 gives frequencies and lengths;
-//! levels, phases, all of the homing sequence and the jumps are ours.
+//! The four PCM inputs as levels: for normal operation (the description, section 6.1), for overload
+//! (6.2), for homing (6.4.1), and the jumps, which are no sequence of the description. It gives
+//! frequencies and lengths; levels, phases, all of the homing sequence and the jumps are ours.
 
 use crate::modem;
 use crate::signals::{chord, constant, noise, tone, tone_from_peak};

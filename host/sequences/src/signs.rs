@@ -1,5 +1,5 @@
-//! The signs of the I-inputs: eight subsequences of 2,048 (004, section 6.3). What 004 had there is
-//! lost; these are our own.
+//! The signs of the I-inputs: eight subsequences of 2,048 (the description, section 6.3). What it
+//! had there is lost; these are our own.
 
 const SUBSEQUENCE: u32 = 2_048;
 

@@ -1,5 +1,5 @@
-//! The inputs are what they are said to be: the tables of 004 as printed, the signs, the sine, the
-//! files.
+//! The inputs are what they are said to be: the description's tables as printed, the signs, the
+//! sine, the files.
 
 use sequences::codewords::{held, i_input};
 use sequences::files::{Inputs, Kind};

@@ -1,4 +1,4 @@
-//! 01's limit cases: counts of samples, lengths of the buffer, g, and the shortest frames.
+//! The rules' limit cases: counts of samples, lengths of the buffer, g, and the shortest frames.
 
 use super::parts::{decode, drop, encode, octets, room, samples};
 use crate::due::Due;

@@ -9,7 +9,7 @@ use second::state::State;
 /// A way to spoil a call, with the reply that is then due.
 type Fault<T> = (u8, fn(&mut T));
 
-/// Faults in the order of 01's rows, so that the first of those chosen decides.
+/// Faults in the order of the rules' rows, so that the first of those chosen decides.
 const ENCODE: [Fault<Encode>; 5] = [
     (4, |c| c.state = unfit(c.state.core)),
     (9, |c| c.law = 2),

@@ -17,7 +17,7 @@ pub fn replies(page: &mut Page) {
     targets(page);
 }
 
-/// Core 2's state is handed back by a refused reset; 01's table has its numbers.
+/// Core 2's state is handed back by a refused reset; the rules' table has its numbers.
 fn resets(page: &mut Page) {
     for core in 0..=255 {
         let number = if (2..=4).contains(&core) { 0 } else { 1 };

@@ -1,4 +1,4 @@
-//! 01's worked examples: frames written and thinned, the twelve first bytes at every core, levels.
+//! The rules' worked examples: frames written and thinned, the twelve first bytes at every core, levels.
 
 use super::parts::{decode_fitting, drop, encode_fitting, frame, room};
 use crate::call::Call;
@@ -52,7 +52,7 @@ fn octets_for(first: State, codewords: &[u8]) -> Vec<u8> {
     codewords.iter().map(&mut octet_for).collect()
 }
 
-/// Law, byte and codeword, as 01's table has them.
+/// Law, byte and codeword, as the rules' table has them.
 const FIRST: [(u8, u8, u8); 12] = [
     (0, 0xFF, 0b00000),
     (0, 0x7F, 0b00000),
@@ -81,7 +81,7 @@ pub fn first_bytes(page: &mut Page) {
     }
 }
 
-/// What 01 says of some octets: level, octet above, octet below.
+/// What the rules say of some octets: level, octet above, octet below.
 fn level_due(law: Law, octet: u8) -> Due {
     let below_zero = |size: u16| Some(16_384 - size);
     match (law, octet) {
