@@ -9,9 +9,9 @@ ghost use Rattle.frame.specs.Sound.{SoundHeader};
 ghost use Rattle.replies.specs.Reply.{numberOf};
 ghost use Rattle.decode.specs.Decode.{decodeNumber, Decodes};
 ghost use Rattle.decode.specs.Inner.{DecodesAll};
-use frame::header::HEADER_LENGTH;
 use frame::header::Header;
 use frame::header::frame_reply;
+use frame::header::header_length;
 use frame::header::read_header;
 use frame::header::sample_count;
 use frame::planes::codeword_at;
@@ -48,7 +48,8 @@ pub fn decode(s: State, law: u8, frame: &[u8], out: &mut [u8]) -> DecodeAnswer
             state: s,
         };
     }
-    let d = decode_into(s, law, h, &frame[HEADER_LENGTH..], out);
+    let n = header_length(h.edition);
+    let d = decode_into(s, law, h, &frame[n..], out);
     let next = d.state;
     DecodeAnswer {
         reply,

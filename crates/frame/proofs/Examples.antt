@@ -1,4 +1,4 @@
--- The worked examples of docs/RULES.md, "The radio frame": eight codewords at (5, 2), their frame, and the frame thinned to a width.
+-- The worked examples of docs/RULES.md, "The frame": eight codewords at (5, 2), their frame, and the frame thinned to a width.
 use mathlib.Core.Path.{_≡_, refl}
 use mathlib.Core.List.{List, [], _∷_, map}
 use Prim.Native.Nat.{ℕ}

@@ -1,5 +1,5 @@
 -- The header written and read back: a frame begins with its header's octets, and the header and the planes that are read are those that were
--- put there (docs/RULES.md, "The radio frame").
+-- put there (docs/RULES.md, "The frame").
 use mathlib.Core.Path.{_≡_, refl, sym, _∙_}
 use mathlib.Core.List.{List, [], _∷_, _++_}
 use Prim.Native.Nat.{ℕ, suc, _+_, _*_, _≤_, _<_}
@@ -27,9 +27,14 @@ header-fields frame = record { width = omega arith; core = omega arith }
 pub narrowed-fields : {w : ℕ} {h : Header} → w < 8 → Fields h → Fields (narrowed w h)
 narrowed-fields narrow f = record { width = narrow; core = f .core }
 
+-- the fields stand before the planes, and a header is short
 pub fields-there : (e : ℕ) → fewest ≤ headerLength e
 unfolding headerLength
 fields-there e = omega arith
+
+pub header-short : (e : ℕ) → headerLength e ≤ 3
+unfolding headerLength
+header-short e = omega arith
 
 pub octets-length : (h : Header) → length (headerOctets h) ≡ headerLength (h .edition)
 unfolding headerOctets headerLength

@@ -1,4 +1,4 @@
--- What was written is read back: the codewords of a frame's planes are those that the planes were made of (docs/RULES.md, "The radio frame").
+-- What was written is read back: the codewords of a frame's planes are those that the planes were made of (docs/RULES.md, "The frame").
 use mathlib.Core.Path.{_≡_, _∙_}
 use mathlib.Core.List.{List}
 use Prim.Native.Nat.{ℕ, zero, suc, _+_, _-_, _*_, _/_, _%_, _^_, _<_}

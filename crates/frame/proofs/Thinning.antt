@@ -1,5 +1,5 @@
 -- Dropping planes is shifting codewords to the right: what is kept of a frame is the frame of the shorter codewords, in one step or in several,
--- and a frame thinned to its own width is itself (docs/RULES.md, "The radio frame").
+-- and a frame thinned to its own width is itself (docs/RULES.md, "The frame").
 use mathlib.Core.Path.{_≡_, refl, sym, _∙_}
 use mathlib.Core.List.{List, [], _∷_, map}
 use Prim.Native.Nat.{ℕ, zero, suc, _+_, _-_, _*_, _/_, _%_, _^_, _≤_, _<_}

@@ -1,4 +1,4 @@
--- The header of a radio frame (docs/RULES.md, "The radio frame"): the frame's limits, each named once and by edition, the header's octets, the
+-- The header of a radio frame (docs/RULES.md, "The frame"): the frame's limits, each named once and by edition, the header's octets, the
 -- header that a frame's octets have, and the frame's length and samples by it.
 use mathlib.Core.Bool.{Bool, _&&_}
 use mathlib.Core.List.{List, [], _∷_}

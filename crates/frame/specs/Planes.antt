@@ -1,4 +1,4 @@
--- A frame written (docs/RULES.md, "The radio frame"): "x planes of g octets each: first the sign bits of all samples, then the next lower bit, and so on.
+-- A frame written (docs/RULES.md, "The frame"): "x planes of g octets each: first the sign bits of all samples, then the next lower bit, and so on.
 -- Within a plane the first sample has the most significant bit of the first octet."
 use mathlib.Core.List.{List, [], _++_}
 use Prim.Native.Nat.{ℕ, zero, suc, _+_, _*_, _%_}

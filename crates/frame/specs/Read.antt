@@ -1,4 +1,4 @@
--- A frame read, and a frame thinned (docs/RULES.md, "The radio frame"): "Dropping to width w keeps the first w planes and writes w in the x field."
+-- A frame read, and a frame thinned (docs/RULES.md, "The frame"): "Dropping to width w keeps the first w planes and writes w in the x field."
 use mathlib.Core.List.{List, _++_}
 use Prim.Native.Nat.{ℕ, zero, suc, _+_, _-_, _*_, _/_, _%_}
 use lib.ListN.{getD, take, drop}

@@ -1,10 +1,10 @@
 // The header as a value: read once from a frame, how long its frame is, and what is wrong with it by itself or with the
-// frame's length (docs/RULES.md, "The radio frame" and rows 5, 1, 2 and 6 of its replies).
+// frame's length (docs/RULES.md, "The frame" and rows 5, 1, 2 and 6 of its replies).
 ghost use mathlib.Core.Path.{_≡_};
 ghost use lib.ListN.{getD};
 ghost use Rattle.words.specs.First.{first};
 ghost use Rattle.replies.specs.Reply.{numberOf};
-ghost use Rattle.frame.specs.Header.{head, headerOf, dueLength, sampleCount, isEdition, isGroups, isCount};
+ghost use Rattle.frame.specs.Header.{headerLength, head, headerOf, dueLength, sampleCount, isEdition, isGroups, isCount};
 ghost use Rattle.frame.specs.Rows.{headerRows, frameRows};
 ghost use Rattle.frame.specs.Sound.{SoundHeader};
 use quantizer::pair::is_pair;
@@ -15,8 +15,6 @@ use replies::is_done;
 pub const EDITION: u8 = 1;
 
 pub const FEWEST: usize = 2;
-
-pub const HEADER_LENGTH: usize = 2;
 
 pub const GROUP: usize = 8;
 
@@ -61,10 +59,17 @@ pub fn head(h: Header) -> u8
     (h.edition << 6) + h.width * 8 + h.core
 }
 
+// The octets before the planes. There is one edition so far, and one length.
+pub fn header_length(e: u8) -> usize
+    ensures { λ r. ⌜ r ≡ headerLength e ⌝ }
+{
+    2
+}
+
 pub fn due_length(h: Header) -> usize
     ensures { λ r. ⌜ r ≡ dueLength h ⌝ }
 {
-    HEADER_LENGTH + (h.width as usize) * (h.groups as usize)
+    header_length(h.edition) + (h.width as usize) * (h.groups as usize)
 }
 
 pub fn sample_count(h: Header) -> usize

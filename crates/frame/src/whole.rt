@@ -1,4 +1,4 @@
-// Whole frames: written from codewords, and thinned to fewer planes (docs/RULES.md, "The radio frame").
+// Whole frames: written from codewords, and thinned to fewer planes (docs/RULES.md, "The frame").
 ghost use mathlib.Core.Path.{_≡_};
 ghost use mathlib.Core.List.{_++_};
 ghost use Prim.Native.Nat.{_/_, _≤_};
@@ -8,17 +8,18 @@ ghost use Rattle.frame.specs.Header.{group, headerOf, dueLength};
 ghost use Rattle.frame.specs.Planes.{frameOf};
 ghost use Rattle.frame.specs.Read.{narrowed, thinned};
 ghost use Rattle.frame.specs.Sound.{SoundHeader, Sound};
-use crate::header::HEADER_LENGTH;
 use crate::header::Header;
 use crate::header::due_length;
 use crate::header::head;
+use crate::header::header_length;
 use crate::planes::write_planes;
 
 pub fn write_frame(codewords: &[u8], h: Header, out: &mut [u8])
     requires { ⌜ SoundHeader h × (h .groups ≡ length (now codewords) / group) × (dueLength h ≤ length (now out)) ⌝ }
     ensures { λ _. ⌜ now (out .exit) ≡ frameOf h (now (codewords .entry)) ++ drop (dueLength h) (now (out .entry)) ⌝ }
 {
-    write_planes(codewords, h.width, &mut out[HEADER_LENGTH..]);
+    let n = header_length(h.edition);
+    write_planes(codewords, h.width, &mut out[n..]);
     out[0] = head(h);
     out[1] = h.groups;
 }

@@ -23,13 +23,3 @@ pick-lt t {a} {b} {n} p q = by-pick (λ (x : ℕ). x < n) t a b (λ e. p) (λ e.
 -- a brace whose rows are 1 and 0 is a bit
 pub bit : (t : Bool) → pick t 1 0 < 2
 bit t = pick-lt t (omega arith) (omega arith)
-
--- a row of refusals that gave no number was passed, and what stands behind it gave none
-pub passed : (t : Bool) (n rest : ℕ) → 0 < n → pick t n rest ≡ 0 → (t ≡ false) × (rest ≡ 0)
-passed true n rest h e = absurd (omega arith)
-passed false n rest h e = (refl, e)
-
--- the same where the row is passed by what holds
-pub held : (t : Bool) (n rest : ℕ) → 0 < n → pick t rest n ≡ 0 → (t ≡ true) × (rest ≡ 0)
-held true n rest h e = (refl, e)
-held false n rest h e = absurd (omega arith)

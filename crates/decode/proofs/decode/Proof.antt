@@ -1,6 +1,7 @@
 -- `decode::decode` meets its contract.
 use borrow.Author.Needs.{needs}
 use mathlib.Core.Path.{_≡_, sym, _∙_}
+use Prim.Native.Nat.{_≤_}
 use native.Mathlib.Omega.{arith}
 use lib.ListN.{length, length-drop}
 use denote.Ref.{now}
@@ -43,29 +44,30 @@ returns c =
       out = refusal _ _ _ refused;
     }
 
-sub-decode-into : tie.Need-sub-decode-into
-sub-decode-into c = omega (arith, able c .sound .long)
+-- the planes begin behind the header's octets, of which there are enough
+start : (c : tie.After-header-length) → c .header-length .result ≡ headerLength (headerOf (now (c .before .before .before .before .before .before .before .args .frame)) .edition)
+start c = c .header-length .ensures ∙ rw (c .before .before .before .before .read-header .ensures)
 
-part-decode-into-start : tie.Need-part-decode-into-start
-part-decode-into-start c = omega (arith, able c .sound .long)
+long : (c : tie.After-header-length) → c .header-length .result ≤ length (now (c .before .before .before .before .before .before .before .args .frame))
+long c = rw (start c) (omega (arith, able (c .before) .sound .whole))
 
 decode-into-requires : tie.Need-decode-into-requires
-unfolding headerLength
 decode-into-requires c κs =
-    let at = c .before .before in
+    let at = c .before .before .before in
     let k = able at in
     let f = now (at .before .before .before .before .before .before .args .frame) in
-    rw (at .before .before .before .read-header .ensures, rest-lent f 2)
+    rw (at .before .before .before .read-header .ensures, rest-lent f (c .before .before .header-length .result), start (c .before .before))
     (k .range, k .sound .header, k .core, simp length-drop (omega (arith, k .sound .whole)), k .space)
 
 returns-2 : tie.Need-returns-2
-unfolding headerLength body received decodeOctets decodeMoved decodeState decodeOut
+unfolding body received decodeOctets decodeMoved decodeState decodeOut
 returns-2 c =
-    let at = c .before .before .before .before .before .before .before in
+    let called = c .before .before .before .before .before .before .before in
+    let at = called .before in
     let f = now (at .before .before .before .before .before .before .args .frame) in
     let h = at .before .before .before .read-header .ensures in
     let n = fit at in
-    let d = rw (h, rest-lent f 2) at (c .before .before .before .before .decode-into .ensures) in
+    let d = rw (h, rest-lent f (called .header-length .result), start called) at (c .before .before .before .before .decode-into .ensures) in
     record {
       number = number (at .before .before);
       octets = c .sample-count .ensures ∙ rw h (success _ _ _ n);
@@ -82,8 +84,9 @@ decode-spec =
     (λ c κs. search needs)
     (λ c κs. search needs)
     returns
-    sub-decode-into
-    part-decode-into-start
+    (λ c κs. search needs)
+    (λ c. omega (arith, long c))
+    (λ c. omega (arith, long c))
     (λ c. omega arith)
     decode-into-requires
     (λ c κs. search needs)

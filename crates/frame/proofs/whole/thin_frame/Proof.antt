@@ -7,9 +7,9 @@ use native.Mathlib.Omega.{arith}
 use lib.ListN.{length, drop}
 use lib.Seq.{length-take-le}
 use denote.Ref.{now}
-use Rattle.frame.specs.Header.{headerLength, headerOf, dueLength}
+use Rattle.frame.specs.Header.{headerOf, dueLength}
 use Rattle.frame.specs.Read.{narrowed, thinned}
-use Rattle.frame.proofs.Headers.{header-renewed, copied}
+use Rattle.frame.proofs.Headers.{fields-there, header-renewed, copied}
 use Rattle.frame.proofs.Kept.{narrowed-sound}
 use Rattle.frame.proofs.whole.thin_frame.Statement.{statement}
 use Rattle.frame.proofs.whole.thin_frame.Tie as tie
@@ -39,8 +39,9 @@ head-requires c κs =
     rw (c .before .before .before .before .before .before .narrow .ensures) (narrowed-sound (at .pre .1 .header) (at .pre .2))
 
 slice-write-out : tie.Need-slice-write-out
-unfolding headerLength
-slice-write-out c = omega (arith, c .before .before .before .copy .kept .1 .0, c .before .before .before .before .before .before .before .before .before .before .pre .3)
+slice-write-out c =
+    let at = c .before .before .before .before .before .before .before .before .before .before in
+    omega (arith, c .before .before .before .copy .kept .1 .0, at .pre .3, fields-there (at .args .h .edition))
 
 returns : tie.Need-returns
 unfolding thinned
