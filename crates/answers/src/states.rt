@@ -7,7 +7,7 @@ use state::State;
 
 const NUMBERS: usize = 25;
 
-// Each number fits the width of its variable; whether it is in the range of 01's table is the calls' to say.
+// Each number fits the width of its variable; whether it is in the range of the rules' table is the calls' to say.
 pub fn is_state(field: &[u8]) -> bool {
     let mut k = 0;
     while k < NUMBERS {

@@ -1,4 +1,4 @@
--- 01's numbered replies: the number of each case of the enum that the calls answer with.
+-- The numbered replies (docs/RULES.md, "The replies"): the number of each case of the enum that the calls answer with.
 use mathlib.Core.Bool.{Bool}
 use Prim.Native.Nat.{ℕ}
 use lib.Dec.{leb}

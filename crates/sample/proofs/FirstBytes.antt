@@ -1,4 +1,4 @@
--- 01's twelve first bytes: from reset at any core, encoder width 5, the first codeword. One claim over one list.
+-- The twelve first bytes (docs/RULES.md): from reset at any core, encoder width 5, the first codeword. One claim over one list.
 use mathlib.Core.List.{List, [], _∷_, map}
 use mathlib.Core.Path.{_≡_, refl}
 use Prim.Native.Nat.{ℕ}

@@ -1,4 +1,4 @@
-// The 25 numbers of a state, in the order of 01's table of ranges. Before the first stands one mark, before each of the
+// The 25 numbers of a state, in the order of the rules' table of ranges. Before the first stands one mark, before each of the
 // others another.
 use crate::Line;
 use state::State;

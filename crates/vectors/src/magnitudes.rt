@@ -1,4 +1,4 @@
-// The magnitudes of the I-inputs at width 4, the 27 runs of 004's Table 9, and what they become at the other widths.
+// The magnitudes of the I-inputs at width 4, the 27 runs of Table 9 of the ITU's description, and what they become at the other widths.
 ghost use Prim.Native.Nat.{_-_, _^_, _≤_, _<_};
 ghost use Rattle.quantizer.specs.Codeword.{Width};
 

@@ -1,4 +1,4 @@
-// The names of the sequences, made as in 004: R or H, the input, x and y of the pair, and the laws.
+// The names of the sequences, made as in the ITU's description: R or H, the input, x and y of the pair, and the laws.
 ghost use Rattle.quantizer.specs.Pair.{Pair};
 use crate::runs::Kind;
 use crate::runs::Run;
