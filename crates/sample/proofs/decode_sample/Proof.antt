@@ -27,7 +27,7 @@ differs-requires c κs = search needs
 
 returns : tie.Need-returns
 unfolding decodeOf moved SD
-returns c = rw (c .differs .ensures, c .before .adjusted .ensures, c .before .before .decoded-byte .ensures, c .before .before .before .advance .ensures, c .before .before .before .before .core-bits .ensures)
+returns c = cc
 
 pub decode-sample-spec : {M : Type 1} → statement M
 decode-sample-spec =

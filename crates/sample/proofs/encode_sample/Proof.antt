@@ -37,7 +37,7 @@ advance-requires c κs =
 
 returns : tie.Need-returns
 unfolding encodeOf I
-returns c = rw (c .advance .ensures, c .before .core-bits .ensures, c .before .before .quan .ensures, c .before .before .before .normalized .ensures)
+returns c = cc
 
 pub encode-sample-spec : {M : Type 1} → statement M
 encode-sample-spec =
