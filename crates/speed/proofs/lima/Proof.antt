@@ -4,12 +4,6 @@ use Rattle.speed.specs.Speed.{LIMA}
 use Rattle.speed.proofs.lima.Statement.{statement}
 use Rattle.speed.proofs.lima.Tie as tie
 
-choose-requires : tie.Need-choose-requires
-choose-requires c κs = search needs
-
-returns : tie.Need-returns
-unfolding LIMA
-returns c = rw (c .choose .ensures .is)
-
 pub lima-spec : {M : Type 1} → statement M
-lima-spec = tie.close (tie.spec choose-requires returns)
+unfolding LIMA
+lima-spec = tie.close (tie.spec (search needs) (λ c. cc))
