@@ -12,48 +12,13 @@ product c =
     let difm : c .choose-wide .result ≤ 16383 = omega arith in
     mul-le-mul difm (c .before .pre .0)
 
-add-dif : tie.Need-add-dif
-add-dif c = search needs
-
-sub-dif : tie.Need-sub-dif
-sub-dif c = search needs
-
-sub-choose-wide : tie.Need-sub-choose-wide
-sub-choose-wide c = search needs
-
-choose-wide-requires : tie.Need-choose-wide-requires
-choose-wide-requires c κs = search needs
-
-mul-prodm : tie.Need-mul-prodm
-mul-prodm c = omega (arith, product c)
-
-sub-choose-wide-2 : tie.Need-sub-choose-wide-2
-sub-choose-wide-2 c = omega (arith, product c)
-
-choose-wide-requires-2 : tie.Need-choose-wide-requires-2
-choose-wide-requires-2 c κs = search needs
-
-add-result : tie.Need-add-result
-add-result c = omega (arith, product (c .before))
-
-cast-result : tie.Need-cast-result
-cast-result c = search needs
-
-returns : tie.Need-returns
-unfolding MIX
-returns c = rw (c .choose-wide2 .ensures .is, c .before .choose-wide .ensures .is)
-
 pub mix-spec : {M : Type 1} → statement M
+unfolding MIX
 mix-spec =
     tie.close
-    (tie.spec
-    add-dif
-    sub-dif
-    sub-choose-wide
-    choose-wide-requires
-    mul-prodm
-    sub-choose-wide-2
-    choose-wide-requires-2
-    add-result
-    cast-result
-    returns)
+    (tie.spec (search needs) (search needs) (search needs) (search needs)
+    (λ c. omega (arith, product c))
+    (λ c. omega (arith, product c))
+    (search needs)
+    (λ c. omega (arith, product (c .before)))
+    (search needs) (λ c. cc))
