@@ -5,12 +5,6 @@ use Rattle.logarithm.specs.Logarithm.{ADDA}
 use Rattle.logarithm.proofs.adda.Statement.{statement}
 use Rattle.logarithm.proofs.adda.Tie as tie
 
-add-result : tie.Need-add-result
-add-result c = search needs
-
-returns : tie.Need-returns
-unfolding ADDA
-returns c = refl
-
 pub adda-spec : {M : Type 1} → statement M
-adda-spec = tie.close (tie.spec add-result returns)
+unfolding ADDA
+adda-spec = tie.close (tie.spec (search needs) (λ c. refl))

@@ -5,15 +5,6 @@ use Rattle.logarithm.specs.Logarithm.{SUBTB}
 use Rattle.logarithm.proofs.subtb.Statement.{statement}
 use Rattle.logarithm.proofs.subtb.Tie as tie
 
-add-result : tie.Need-add-result
-add-result c = search needs
-
-sub-result : tie.Need-sub-result
-sub-result c = search needs
-
-returns : tie.Need-returns
-unfolding SUBTB
-returns c = refl
-
 pub subtb-spec : {M : Type 1} → statement M
-subtb-spec = tie.close (tie.spec add-result sub-result returns)
+unfolding SUBTB
+subtb-spec = tie.close (tie.spec (search needs) (search needs) (λ c. refl))
