@@ -4,12 +4,6 @@ use Rattle.predictor.specs.Coefficient.{TRIGB}
 use Rattle.predictor.proofs.coefficient.trigb.Statement.{statement}
 use Rattle.predictor.proofs.coefficient.trigb.Tie as tie
 
-choose-requires : tie.Need-choose-requires
-choose-requires c κs = search needs
-
-returns : tie.Need-returns
-unfolding TRIGB
-returns c = rw (c .choose .ensures .is)
-
 pub trigb-spec : {M : Type 1} → statement M
-trigb-spec = tie.close (tie.spec choose-requires returns)
+unfolding TRIGB
+trigb-spec = tie.close (tie.spec (search needs) (λ c. cc))

@@ -7,37 +7,10 @@ use Rattle.predictor.proofs.Held.{fa-word}
 use Rattle.predictor.proofs.coefficient.upa2.Statement.{statement}
 use Rattle.predictor.proofs.coefficient.upa2.Tie as tie
 
-choose-wide-requires : tie.Need-choose-wide-requires
-choose-wide-requires c κs = search needs
-
-fa-requires : tie.Need-fa-requires
-fa-requires c κs = search needs
-
 add-uga2 : tie.Need-add-uga2
 add-uga2 c =
     let gain : c .fa .result < 131072 = rw (c .fa .ensures) (fa-word _ _) in
     omega arith
-
-uga2-requires : tie.Need-uga2-requires
-uga2-requires c κs = search needs
-
-minus-requires : tie.Need-minus-requires
-minus-requires c κs = search needs
-
-add-minus : tie.Need-add-minus
-add-minus c = search needs
-
-minus-requires-2 : tie.Need-minus-requires-2
-minus-requires-2 c κs = search needs
-
-choose-requires : tie.Need-choose-requires
-choose-requires c κs = search needs
-
-plus-requires : tie.Need-plus-requires
-plus-requires c κs = search needs
-
-plus-requires-2 : tie.Need-plus-requires-2
-plus-requires-2 c κs = search needs
 
 returns : tie.Need-returns
 unfolding UPA2
@@ -46,15 +19,5 @@ returns c = rw (c .plus2 .ensures, c .before .plus .ensures, c .before .before .
 pub upa2-spec : {M : Type 1} → statement M
 upa2-spec =
     tie.close
-    (tie.spec
-    choose-wide-requires
-    fa-requires
-    add-uga2
-    uga2-requires
-    minus-requires
-    add-minus
-    minus-requires-2
-    choose-requires
-    plus-requires
-    plus-requires-2
-    returns)
+    (tie.spec (search needs) (search needs) add-uga2 (search needs) (search needs) (search needs)
+    (search needs) (search needs) (search needs) (search needs) returns)

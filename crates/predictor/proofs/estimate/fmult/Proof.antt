@@ -13,33 +13,6 @@ product c =
     let srnmant : c .before .before .before .before .args .srn % 64 ≤ 63 = omega arith in
     mul-le-mul srnmant (c .before .before .float-of .ensures .small)
 
-sub-choose : tie.Need-sub-choose
-sub-choose c = search needs
-
-choose-requires : tie.Need-choose-requires
-choose-requires c κs = search needs
-
-float-of-requires : tie.Need-float-of-requires
-float-of-requires c κs = search needs
-
-add-wanexp : tie.Need-add-wanexp
-add-wanexp c = search needs
-
-mul-wanmant : tie.Need-mul-wanmant
-mul-wanmant c = omega (arith, product c)
-
-add-wanmant : tie.Need-add-wanmant
-add-wanmant c = omega (arith, product c)
-
-product-magnitude-requires : tie.Need-product-magnitude-requires
-product-magnitude-requires c κs = omega (arith, product c)
-
-minus-requires : tie.Need-minus-requires
-minus-requires c κs = search needs
-
-choose-requires-2 : tie.Need-choose-requires-2
-choose-requires-2 c κs = search needs
-
 returns : tie.Need-returns
 unfolding FMULT floatOf
 returns c = rw (c .choose2 .ensures .is, c .before .minus .ensures, c .before .before .product-magnitude .ensures, c .before .before .before .before .before .float-of .ensures .is, c .before .before .before .before .before .before .choose .ensures .is)
@@ -47,14 +20,8 @@ returns c = rw (c .choose2 .ensures .is, c .before .minus .ensures, c .before .b
 pub fmult-spec : {M : Type 1} → statement M
 fmult-spec =
     tie.close
-    (tie.spec
-    sub-choose
-    choose-requires
-    float-of-requires
-    add-wanexp
-    mul-wanmant
-    add-wanmant
-    product-magnitude-requires
-    minus-requires
-    choose-requires-2
-    returns)
+    (tie.spec (search needs) (search needs) (search needs) (search needs)
+    (λ c. omega (arith, product c))
+    (λ c. omega (arith, product c))
+    (λ c κs. omega (arith, product c))
+    (search needs) (search needs) returns)

@@ -15,32 +15,14 @@ few c = rw (c .bit-length .ensures) (length-le 16 _ (c .before .fits .mag .fits)
 
 is-mantissa : (c : tie.After-choose-wide) → c .choose-wide .result ≡ MANT (c .before .before .args .mag)
 unfolding MANT EXP
-is-mantissa c = rw (c .choose-wide .ensures .is, c .before .bit-length .ensures)
+is-mantissa c = cc
 
 mantissa : (c : tie.After-choose-wide) → Within 32 63 (c .choose-wide .result)
 mantissa c = rw (is-mantissa c) (mantissa-range _ (c .before .before .fits .mag .fits))
 
-bit-length-requires : tie.Need-bit-length-requires
-bit-length-requires c κs = search needs
-
-mul-choose-wide : tie.Need-mul-choose-wide
-mul-choose-wide c = search needs
-
-cast-choose-wide : tie.Need-cast-choose-wide
-cast-choose-wide c = search needs
-
-shr-choose-wide : tie.Need-shr-choose-wide
-shr-choose-wide c = omega (arith, few c)
-
-choose-wide-requires : tie.Need-choose-wide-requires
-choose-wide-requires c κs = search needs
-
-cast-t9 : tie.Need-cast-t9
-cast-t9 c = omega (arith, mantissa c)
-
 same : (c : tie.After-choose-wide) → record { exp = c .before .bit-length .result; mant = c .choose-wide .result } ≡ floatOf (c .before .before .args .mag)
 unfolding floatOf EXP
-same c = rw (is-mantissa c, c .before .bit-length .ensures)
+same c = cc (is-mantissa c)
 
 returns : tie.Need-returns
 returns c = record { is = same c; few = few (c .before); small = mantissa c .high }
@@ -48,11 +30,8 @@ returns c = record { is = same c; few = few (c .before); small = mantissa c .hig
 pub float-of-spec : {M : Type 1} → statement M
 float-of-spec =
     tie.close
-    (tie.spec
-    bit-length-requires
-    mul-choose-wide
-    cast-choose-wide
-    shr-choose-wide
-    choose-wide-requires
-    cast-t9
+    (tie.spec (search needs) (search needs) (search needs)
+    (λ c. omega (arith, few c))
+    (search needs)
+    (λ c. omega (arith, mantissa c))
     returns)

@@ -4,9 +4,6 @@ use Rattle.predictor.specs.Reconstruct.{XOR}
 use Rattle.predictor.proofs.reconstruct.xor.Statement.{statement}
 use Rattle.predictor.proofs.reconstruct.xor.Tie as tie
 
-returns : tie.Need-returns
-unfolding XOR
-returns c = refl
-
 pub xor-spec : {M : Type 1} → statement M
-xor-spec = tie.close (tie.spec returns)
+unfolding XOR
+xor-spec = tie.close (tie.spec (λ c. refl))

@@ -4,12 +4,6 @@ use Rattle.predictor.specs.Tone.{TONE}
 use Rattle.predictor.proofs.tone.tone.Statement.{statement}
 use Rattle.predictor.proofs.tone.tone.Tie as tie
 
-choose-requires : tie.Need-choose-requires
-choose-requires c κs = search needs
-
-returns : tie.Need-returns
-unfolding TONE
-returns c = rw (c .choose .ensures .is)
-
 pub tone-spec : {M : Type 1} → statement M
-tone-spec = tie.close (tie.spec choose-requires returns)
+unfolding TONE
+tone-spec = tie.close (tie.spec (search needs) (λ c. cc))
