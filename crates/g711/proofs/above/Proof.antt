@@ -8,17 +8,11 @@ use Rattle.g711.proofs.Steps.{above-is}
 use Rattle.g711.proofs.above.Statement.{statement}
 use Rattle.g711.proofs.above.Tie as tie
 
-next-requires : tie.Need-next-requires
-next-requires c κs = search needs
-
 returns : tie.Need-returns
 returns c =
     let start = c .before .before in
     let mu : eqb (start .args .law) 0 ≡ true = eq-eqb _ _ (c .before .if1 .taken) in
     rw (c .next .ensures) (rw mu at (above-is (start .args .law) _ (start .fits .sp .fits)))
-
-next-requires-2 : tie.Need-next-requires-2
-next-requires-2 c κs = search needs
 
 returns-2 : tie.Need-returns-2
 returns-2 c =
@@ -27,4 +21,4 @@ returns-2 c =
     rw (c .next2 .ensures) (rw a at (above-is (start .args .law) _ (start .fits .sp .fits)))
 
 pub above-spec : {M : Type 1} → statement M
-above-spec = tie.close (tie.spec next-requires returns next-requires-2 returns-2)
+above-spec = tie.close (tie.spec (search needs) returns (search needs) returns-2)

@@ -4,11 +4,8 @@ use Rattle.g711.proofs.Steps.{below-is}
 use Rattle.g711.proofs.below.Statement.{statement}
 use Rattle.g711.proofs.below.Tie as tie
 
-above-requires : tie.Need-above-requires
-above-requires c κs = search needs
-
 returns : tie.Need-returns
 returns c = rw (c .above .ensures) (below-is (c .before .args .law) _ (c .before .fits .sp .fits))
 
 pub below-spec : {M : Type 1} → statement M
-below-spec = tie.close (tie.spec above-requires returns)
+below-spec = tie.close (tie.spec (search needs) returns)

@@ -5,19 +5,13 @@ use Rattle.g711.specs.Compress.{COMPRESS}
 use Rattle.g711.proofs.compress.Statement.{statement}
 use Rattle.g711.proofs.compress.Tie as tie
 
-compress-mu-requires : tie.Need-compress-mu-requires
-compress-mu-requires c κs = search needs
-
 returns : tie.Need-returns
 unfolding COMPRESS
 returns c = simp (eq-eqb _ _ (c .before .if1 .taken), c .compress-mu .ensures)
-
-compress-a-requires : tie.Need-compress-a-requires
-compress-a-requires c κs = search needs
 
 returns-2 : tie.Need-returns-2
 unfolding COMPRESS
 returns-2 c = simp (ne-eqb _ _ (c .before .if1 .left), c .compress-a .ensures)
 
 pub compress-spec : {M : Type 1} → statement M
-compress-spec = tie.close (tie.spec compress-mu-requires returns compress-a-requires returns-2)
+compress-spec = tie.close (tie.spec (search needs) returns (search needs) returns-2)

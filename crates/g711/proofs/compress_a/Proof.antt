@@ -9,9 +9,6 @@ use Rattle.g711.proofs.Decisions.{level-top}
 use Rattle.g711.proofs.compress_a.Statement.{statement}
 use Rattle.g711.proofs.compress_a.Tie as tie
 
-level-a-requires : tie.Need-level-a-requires
-level-a-requires c κs = search needs
-
 add-result : tie.Need-add-result
 add-result c = omega (arith, level-top false (c .before .before .args .sr / 2))
 
@@ -21,18 +18,6 @@ cast-result c = omega (arith, level-top false (c .before .before .args .sr / 2))
 returns : tie.Need-returns
 unfolding COMPRESS
 returns c = simp (eq-eqb _ _ (c .before .if1 .taken), c .level-a .ensures)
-
-magnitude-requires : tie.Need-magnitude-requires
-magnitude-requires c κs = search needs
-
-add-less-one : tie.Need-add-less-one
-add-less-one c = search needs
-
-less-one-requires : tie.Need-less-one-requires
-less-one-requires c κs = search needs
-
-level-a-requires-2 : tie.Need-level-a-requires-2
-level-a-requires-2 c κs = search needs
 
 cast-result-2 : tie.Need-cast-result-2
 cast-result-2 c = omega (arith, level-top false (c .before .less-one .result))
@@ -50,14 +35,5 @@ returns-2 c =
 pub compress-a-spec : {M : Type 1} → statement M
 compress-a-spec =
     tie.close
-    (tie.spec
-    level-a-requires
-    add-result
-    cast-result
-    returns
-    magnitude-requires
-    add-less-one
-    less-one-requires
-    level-a-requires-2
-    cast-result-2
-    returns-2)
+    (tie.spec (search needs) add-result cast-result returns (search needs) (search needs)
+    (search needs) (search needs) cast-result-2 returns-2)

@@ -9,12 +9,6 @@ use Rattle.g711.proofs.Outputs.{output-high, expand-is}
 use Rattle.g711.proofs.expand.Statement.{statement}
 use Rattle.g711.proofs.expand.Tie as tie
 
-sub-output-mu : tie.Need-sub-output-mu
-sub-output-mu c = search needs
-
-cast-output-mu : tie.Need-cast-output-mu
-cast-output-mu c = search needs
-
 output-mu-requires : tie.Need-output-mu-requires
 output-mu-requires c κs = search needs
 
@@ -28,9 +22,6 @@ returns c =
     c .signed .ensures
     ∙ rw (c .before .output-mu .ensures)
     (rw mu at (expand-is (start .args .law) _ (start .fits .s .fits)))
-
-cast-output-a : tie.Need-cast-output-a
-cast-output-a c = search needs
 
 output-a-requires : tie.Need-output-a-requires
 output-a-requires c κs = search needs
@@ -52,14 +43,5 @@ returns-2 c =
 pub expand-spec : {M : Type 1} → statement M
 expand-spec =
     tie.close
-    (tie.spec
-    sub-output-mu
-    cast-output-mu
-    output-mu-requires
-    signed-requires
-    returns
-    cast-output-a
-    output-a-requires
-    mul-signed
-    signed-requires-2
-    returns-2)
+    (tie.spec (search needs) (search needs) output-mu-requires signed-requires returns
+    (search needs) output-a-requires mul-signed signed-requires-2 returns-2)

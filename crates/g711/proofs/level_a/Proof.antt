@@ -11,12 +11,6 @@ use Rattle.g711.proofs.level_a.Tie as tie
 returns : tie.Need-returns
 returns c = sym (rw (lt-ltb _ _ (c .if1 .taken)) at (level-is false (c .before .args .imag)))
 
-at-most-requires : tie.Need-at-most-requires
-at-most-requires c κs = search needs
-
-chord-requires : tie.Need-chord-requires
-chord-requires c κs = search needs
-
 returns-2 : tie.Need-returns-2
 returns-2 c =
     let start = c .before .before .before in
@@ -24,4 +18,4 @@ returns-2 c =
     rw (c .chord .ensures, c .before .at-most .ensures) (sym (rw far at (level-is false (start .args .imag))))
 
 pub level-a-spec : {M : Type 1} → statement M
-level-a-spec = tie.close (tie.spec returns at-most-requires chord-requires returns-2)
+level-a-spec = tie.close (tie.spec returns (search needs) (search needs) returns-2)

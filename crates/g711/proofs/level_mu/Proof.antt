@@ -6,17 +6,8 @@ use Rattle.g711.proofs.Decisions.{level-is}
 use Rattle.g711.proofs.level_mu.Statement.{statement}
 use Rattle.g711.proofs.level_mu.Tie as tie
 
-at-most-requires : tie.Need-at-most-requires
-at-most-requires c κs = search needs
-
-add-chord : tie.Need-add-chord
-add-chord c = search needs
-
-chord-requires : tie.Need-chord-requires
-chord-requires c κs = search needs
-
 returns : tie.Need-returns
 returns c = rw (c .chord .ensures, c .before .at-most .ensures) (sym (level-is true (c .before .before .args .imag)))
 
 pub level-mu-spec : {M : Type 1} → statement M
-level-mu-spec = tie.close (tie.spec at-most-requires add-chord chord-requires returns)
+level-mu-spec = tie.close (tie.spec (search needs) (search needs) (search needs) returns)

@@ -5,17 +5,8 @@ use Rattle.g711.proofs.Outputs.{middle-high}
 use Rattle.g711.proofs.middle.Statement.{statement}
 use Rattle.g711.proofs.middle.Tie as tie
 
-mul-result : tie.Need-mul-result
-mul-result c = search needs
-
-add-result : tie.Need-add-result
-add-result c = search needs
-
-shl-result : tie.Need-shl-result
-shl-result c = search needs
-
-returns : tie.Need-returns
-returns c = omega (arith, middle-high _ (c .pre))
-
 pub middle-spec : {M : Type 1} → statement M
-middle-spec = tie.close (tie.spec mul-result add-result shl-result returns)
+middle-spec =
+    tie.close
+    (tie.spec (search needs) (search needs) (search needs)
+    (λ c. omega (arith, middle-high _ (c .pre))))

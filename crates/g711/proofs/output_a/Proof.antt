@@ -5,21 +5,12 @@ use Rattle.g711.proofs.Outputs.{output-is}
 use Rattle.g711.proofs.output_a.Statement.{statement}
 use Rattle.g711.proofs.output_a.Tie as tie
 
-mul-result : tie.Need-mul-result
-mul-result c = search needs
-
-add-result : tie.Need-add-result
-add-result c = search needs
-
 returns : tie.Need-returns
 returns c = rw (lt-ltb _ _ (c .if1 .taken)) at (output-is 1 _ (c .before .pre))
-
-middle-requires : tie.Need-middle-requires
-middle-requires c κs = search needs
 
 returns-2 : tie.Need-returns-2
 returns-2 c =
     rw (c .middle .ensures) (rw (le-ltb _ _ (c .before .if1 .left)) at (output-is 1 _ (c .before .before .pre)))
 
 pub output-a-spec : {M : Type 1} → statement M
-output-a-spec = tie.close (tie.spec mul-result add-result returns middle-requires returns-2)
+output-a-spec = tie.close (tie.spec (search needs) (search needs) returns (search needs) returns-2)

@@ -5,9 +5,6 @@ use Rattle.g711.proofs.Outputs.{middle-low, output-is}
 use Rattle.g711.proofs.output_mu.Statement.{statement}
 use Rattle.g711.proofs.output_mu.Tie as tie
 
-middle-requires : tie.Need-middle-requires
-middle-requires c κs = search needs
-
 sub-result : tie.Need-sub-result
 sub-result c = omega (arith, middle-low _ (c .before .pre))
 
@@ -15,4 +12,4 @@ returns : tie.Need-returns
 returns c = rw (c .middle .ensures) (output-is 0 _ (c .before .pre))
 
 pub output-mu-spec : {M : Type 1} → statement M
-output-mu-spec = tie.close (tie.spec middle-requires sub-result returns)
+output-mu-spec = tie.close (tie.spec (search needs) sub-result returns)
