@@ -7,21 +7,9 @@ use Rattle.quantizer.proofs.Thresholds.{reached-within}
 use Rattle.quantizer.proofs.decision.codeword_of.Statement.{statement}
 use Rattle.quantizer.proofs.decision.codeword_of.Tie as tie
 
-count-reached-requires : tie.Need-count-reached-requires
-count-reached-requires c κs = search needs
-
 returns : tie.Need-returns
 unfolding coded
 returns c = simp (eq-eqb _ _ (c .if1 .taken)) (c .before .count-reached .ensures)
-
-mul-result : tie.Need-mul-result
-mul-result c = search needs
-
-add-result : tie.Need-add-result
-add-result c = search needs
-
-cast-result : tie.Need-cast-result
-cast-result c = search needs
 
 sub-result : tie.Need-sub-result
 sub-result c =
@@ -35,11 +23,5 @@ returns-2 c = simp (ne-eqb _ _ (c .if1 .left), c .before .count-reached .ensures
 pub codeword-of-spec : {M : Type 1} → statement M
 codeword-of-spec =
     tie.close
-    (tie.spec
-    count-reached-requires
-    returns
-    mul-result
-    add-result
-    cast-result
-    sub-result
+    (tie.spec (search needs) returns (search needs) (search needs) (search needs) sub-result
     returns-2)

@@ -17,29 +17,8 @@ Inv-loop levels dln value n₀ i₀ n i =
 abbrev μ-loop : tie.MeasureT-loop
 μ-loop levels dln value n₀ i₀ n i = length levels - i
 
-offset-of-requires : tie.Need-offset-of-requires Inv-loop μ-loop
-offset-of-requires c κs = search needs
-
 loop-holds : tie.Need-loop-holds Inv-loop μ-loop
 loop-holds c = omega arith
-
-mul-offset-of : tie.Need-mul-offset-of Inv-loop μ-loop
-mul-offset-of c = search needs
-
-shared-slice-read-offset-of : tie.Need-shared-slice-read-offset-of Inv-loop μ-loop
-shared-slice-read-offset-of c = search needs
-
-offset-of-requires-2 : tie.Need-offset-of-requires-2 Inv-loop μ-loop
-offset-of-requires-2 c κs = search needs
-
-add-n : tie.Need-add-n Inv-loop μ-loop
-add-n c = search needs
-
-add-i : tie.Need-add-i Inv-loop μ-loop
-add-i c = search needs
-
-loop-less : tie.Need-loop-less Inv-loop μ-loop
-loop-less c = search needs
 
 loop-again : tie.Need-loop-again Inv-loop μ-loop
 loop-again c =
@@ -60,16 +39,5 @@ returns c =
 pub count-reached-spec : {M : Type 1} → statement M
 count-reached-spec =
     tie.close
-    (tie.spec
-    Inv-loop
-    μ-loop
-    offset-of-requires
-    loop-holds
-    mul-offset-of
-    shared-slice-read-offset-of
-    offset-of-requires-2
-    add-n
-    add-i
-    loop-less
-    loop-again
-    returns)
+    (tie.spec Inv-loop μ-loop (search needs) loop-holds (search needs) (search needs) (search needs)
+    (search needs) (search needs) (search needs) loop-again returns)

@@ -4,12 +4,6 @@ use Rattle.quantizer.specs.Multiplier.{multipliers, FUNCTW}
 use Rattle.quantizer.proofs.multiplier.functw.Statement.{statement}
 use Rattle.quantizer.proofs.multiplier.functw.Tie as tie
 
-entry-of-requires : tie.Need-entry-of-requires
-entry-of-requires c κs = search needs
-
-returns : tie.Need-returns
-unfolding FUNCTW multipliers
-returns c = c .entry-of .ensures
-
 pub functw-spec : {M : Type 1} → statement M
-functw-spec = tie.close (tie.spec entry-of-requires returns)
+unfolding FUNCTW multipliers
+functw-spec = tie.close (tie.spec (search needs) (λ c. c .entry-of .ensures))

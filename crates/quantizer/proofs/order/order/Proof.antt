@@ -5,17 +5,10 @@ use Rattle.quantizer.proofs.Halves.{halves, width-of, place-below, plac
 use Rattle.quantizer.proofs.order.order.Statement.{statement}
 use Rattle.quantizer.proofs.order.order.Tie as tie
 
-half-requires : tie.Need-half-requires
-half-requires c κs = search needs
-
-add-result : tie.Need-add-result
-add-result c = omega (arith, halves (width-of (c .before .before .pre)))
-
-returns : tie.Need-returns
-returns c = place-below (c .before .before .pre) (c .before .half .ensures) (c .if1 .taken)
-
-returns-2 : tie.Need-returns-2
-returns-2 c = place-from (c .before .before .pre) (c .before .half .ensures) (c .if1 .left)
-
 pub order-spec : {M : Type 1} → statement M
-order-spec = tie.close (tie.spec half-requires add-result returns returns-2)
+order-spec =
+    tie.close
+    (tie.spec (search needs)
+    (λ c. omega (arith, halves (width-of (c .before .before .pre))))
+    (λ c. search place-below)
+    (λ c. search place-from))

@@ -6,9 +6,6 @@ use Rattle.quantizer.proofs.Nesting.{coding, quan-codeword}
 use Rattle.quantizer.proofs.order.order_of_difference.Statement.{statement}
 use Rattle.quantizer.proofs.order.order_of_difference.Tie as tie
 
-quan-requires : tie.Need-quan-requires
-quan-requires c κs = search needs
-
 order-requires : tie.Need-order-requires
 order-requires c κs =
     let pre = c .before .pre in
@@ -20,4 +17,4 @@ returns c =
     c .order .ensures ∙ ap (IM _) (c .before .quan .ensures) ∙ sym (coding (pre .0) (pre .1) (pre .2) .ordered)
 
 pub order-of-difference-spec : {M : Type 1} → statement M
-order-of-difference-spec = tie.close (tie.spec quan-requires order-requires returns)
+order-of-difference-spec = tie.close (tie.spec (search needs) order-requires returns)

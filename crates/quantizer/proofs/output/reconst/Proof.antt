@@ -7,21 +7,12 @@ use Rattle.quantizer.specs.Output.{RECONST}
 use Rattle.quantizer.proofs.output.reconst.Statement.{statement}
 use Rattle.quantizer.proofs.output.reconst.Tie as tie
 
-sub-t3 : tie.Need-sub-t3
-sub-t3 c = search needs
-
-shr-t4 : tie.Need-shr-t4
-shr-t4 c = search needs
-
 cast-t5 : tie.Need-cast-t5
 cast-t5 c = omega (arith, shr-le (c .args .i) (c .args .width - 1))
-
-dqln-of-requires : tie.Need-dqln-of-requires
-dqln-of-requires c κs = search needs
 
 returns : tie.Need-returns
 unfolding RECONST
 returns c = λ k. record { dqs = RECONST (c .before .args .width) (c .before .args .i) .dqs; dqln = c .dqln-of .ensures k }
 
 pub reconst-spec : {M : Type 1} → statement M
-reconst-spec = tie.close (tie.spec sub-t3 shr-t4 cast-t5 dqln-of-requires returns)
+reconst-spec = tie.close (tie.spec (search needs) (search needs) cast-t5 (search needs) returns)
