@@ -4,9 +4,6 @@ use Rattle.state.specs.Reset.{resetOf}
 use Rattle.state.proofs.reset.Statement.{statement}
 use Rattle.state.proofs.reset.Tie as tie
 
-returns : tie.Need-returns
-unfolding resetOf
-returns c = refl
-
 pub reset-spec : {M : Type 1} → statement M
-reset-spec = tie.close (tie.spec returns)
+unfolding resetOf
+reset-spec = tie.close (tie.spec (λ c. refl))

@@ -5,9 +5,6 @@ use Rattle.state.specs.Range.{within}
 use Rattle.state.proofs.within.Statement.{statement}
 use Rattle.state.proofs.within.Tie as tie
 
-returns : tie.Need-returns
-unfolding within every joined
-returns c = refl
-
 pub within-spec : {M : Type 1} → statement M
-within-spec = tie.close (tie.spec returns)
+unfolding within every joined
+within-spec = tie.close (tie.spec (λ c. refl))
