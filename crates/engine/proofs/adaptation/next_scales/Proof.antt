@@ -5,18 +5,12 @@ use Rattle.engine.specs.Groups.{scalesOf}
 use Rattle.engine.proofs.adaptation.next_scales.Statement.{statement}
 use Rattle.engine.proofs.adaptation.next_scales.Tie as tie
 
-filtd-requires : tie.Need-filtd-requires
-filtd-requires c κs = search needs
-
 limb-requires : tie.Need-limb-requires
 limb-requires c κs = rw (c .filtd .ensures) (filtd-word _ _)
-
-filte-requires : tie.Need-filte-requires
-filte-requires c κs = search needs
 
 returns : tie.Need-returns
 unfolding scalesOf
 returns c = rw (c .filte .ensures, c .before .limb .ensures, c .before .before .filtd .ensures)
 
 pub next-scales-spec : {M : Type 1} → statement M
-next-scales-spec = tie.close (tie.spec filtd-requires limb-requires filte-requires returns)
+next-scales-spec = tie.close (tie.spec (search needs) limb-requires (search needs) returns)

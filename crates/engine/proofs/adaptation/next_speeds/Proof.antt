@@ -7,12 +7,6 @@ use Rattle.engine.specs.Groups.{speedsOf}
 use Rattle.engine.proofs.adaptation.next_speeds.Statement.{statement}
 use Rattle.engine.proofs.adaptation.next_speeds.Tie as tie
 
-filta-requires : tie.Need-filta-requires
-filta-requires c κs = search needs
-
-filtb-requires : tie.Need-filtb-requires
-filtb-requires c κs = search needs
-
 subtc-requires : tie.Need-subtc-requires
 subtc-requires c κs =
     let dmsp : c .before .filta .result ≤ 3584 = rw (c .before .filta .ensures) (filta-range _ _ (c .before .before .pre .1) (c .before .before .pre .0 .short)) in
@@ -24,9 +18,6 @@ filtc-requires c κs =
     let ax : c .subtc .result ≤ 1 = rw (c .subtc .ensures) (subtc-range _ _ _ _) in
     omega arith
 
-triga-requires : tie.Need-triga-requires
-triga-requires c κs = search needs
-
 returns : tie.Need-returns
 unfolding speedsOf
 returns c = rw (c .triga .ensures, c .before .filtc .ensures, c .before .before .subtc .ensures, c .before .before .before .filtb .ensures, c .before .before .before .before .filta .ensures)
@@ -34,4 +25,4 @@ returns c = rw (c .triga .ensures, c .before .filtc .ensures, c .before .before 
 pub next-speeds-spec : {M : Type 1} → statement M
 next-speeds-spec =
     tie.close
-    (tie.spec filta-requires filtb-requires subtc-requires filtc-requires triga-requires returns)
+    (tie.spec (search needs) (search needs) subtc-requires filtc-requires (search needs) returns)

@@ -9,9 +9,6 @@ use Rattle.engine.proofs.Differences.{difference-scaled}
 use Rattle.engine.proofs.difference.quantized_difference.Statement.{statement}
 use Rattle.engine.proofs.difference.quantized_difference.Tie as tie
 
-reconst-requires : tie.Need-reconst-requires
-reconst-requires c κs = search needs
-
 adda-requires : tie.Need-adda-requires
 adda-requires c κs = rw (c .reconst .ensures) (reconst-near (c .before .pre .0) .word)
 
@@ -23,10 +20,7 @@ antilog-requires c κs =
     let sign : c .before .reconst .result .dqs < 2 = rw (c .before .reconst .ensures) (reconst-signed code) in
     omega arith
 
-returns : tie.Need-returns
-unfolding difference
-returns c = rw (c .antilog .ensures, c .before .adda .ensures, c .before .before .reconst .ensures)
-
 pub quantized-difference-spec : {M : Type 1} → statement M
+unfolding difference
 quantized-difference-spec =
-    tie.close (tie.spec reconst-requires adda-requires antilog-requires returns)
+    tie.close (tie.spec (search needs) adda-requires antilog-requires (λ c. cc))

@@ -15,59 +15,20 @@ quantized-difference-requires c κs =
     let s = c .args .s in
     (codeword-of-core (c .pre .2), rw (y-is s (c .pre .1)) (y-range s (c .pre .0)))
 
-trans-requires : tie.Need-trans-requires
-trans-requires c κs = search needs
-
 addc-requires : tie.Need-addc-requires
 addc-requires c κs =
     let at = c .before .before in
     rw (sez-is (at .args .s) (at .pre .1)) (sez-word (at .args .s))
-
-next-poles-requires : tie.Need-next-poles-requires
-next-poles-requires c κs = search needs
-
-functw-requires : tie.Need-functw-requires
-functw-requires c κs = search needs
-
-next-scales-requires : tie.Need-next-scales-requires
-next-scales-requires c κs = search needs
-
-functf-requires : tie.Need-functf-requires
-functf-requires c κs = search needs
 
 next-speeds-requires : tie.Need-next-speeds-requires
 next-speeds-requires c κs =
     let at = c .before .before .before .before .before .before .before in
     (at .pre .0, rw (c .functf .ensures) (functf-small (at .pre .2)))
 
-next-zeros-requires : tie.Need-next-zeros-requires
-next-zeros-requires c κs = search needs
-
-floata-requires : tie.Need-floata-requires
-floata-requires c κs = search needs
-
-array-read-t17 : tie.Need-array-read-t17
-array-read-t17 c = search needs
-
-array-read-t20 : tie.Need-array-read-t20
-array-read-t20 c = search needs
-
-array-read-t23 : tie.Need-array-read-t23
-array-read-t23 c = search needs
-
-array-read-t26 : tie.Need-array-read-t26
-array-read-t26 c = search needs
-
-array-read-t29 : tie.Need-array-read-t29
-array-read-t29 c = search needs
-
 next-signal-requires : tie.Need-next-signal-requires
 next-signal-requires c κs =
     let at = c .before .before .before .before .before .before .before .before .before .before .before .before in
     rw (se-is (at .args .s) (at .pre .1)) (se-word (at .args .s))
-
-trigb-requires : tie.Need-trigb-requires
-trigb-requires c κs = search needs
 
 returns : tie.Need-returns
 unfolding advanceOf
@@ -108,22 +69,7 @@ returns c =
 pub advance-spec : {M : Type 1} → statement M
 advance-spec =
     tie.close
-    (tie.spec
-    quantized-difference-requires
-    trans-requires
-    addc-requires
-    next-poles-requires
-    functw-requires
-    next-scales-requires
-    functf-requires
-    next-speeds-requires
-    next-zeros-requires
-    floata-requires
-    array-read-t17
-    array-read-t20
-    array-read-t23
-    array-read-t26
-    array-read-t29
-    next-signal-requires
-    trigb-requires
-    returns)
+    (tie.spec quantized-difference-requires (search needs) addc-requires (search needs)
+    (search needs) (search needs) (search needs) next-speeds-requires (search needs) (search needs)
+    (search needs) (search needs) (search needs) (search needs) (search needs) next-signal-requires
+    (search needs) returns)
