@@ -58,5 +58,4 @@ subtc-range DMSP DMLP TDP Y =
     pick-le steady {a = 0} {b = 1} {n = 1} (omega arith) (omega arith)
 
 pub triga-range : (TR APP : ℕ) → APP ≤ 512 → TRIGA TR APP ≤ 512
-unfolding TRIGA
 triga-range TR APP h = pick-le (eqb TR 0) h (omega arith)

@@ -43,5 +43,5 @@ SUBTC DMSP DMLP TDP Y =
     pick (leb 1536 Y && ltb DIFM DTHR && eqb TDP 0) 0 1
 
 -- "Speed control trigger block": APR
-unfoldable pub TRIGA : ℕ → ℕ → ℕ
+abbrev pub TRIGA : ℕ → ℕ → ℕ
 TRIGA TR APP = pick (eqb TR 0) APP 256
