@@ -32,11 +32,9 @@ unfolding LOG
 log-sign D h = omega arith
 
 pub normalized-word : (DL Y : ℕ) → SUBTB DL Y < 4096
-unfolding SUBTB
 normalized-word DL Y = omega arith
 
 sides : (DL Y : ℕ) → DL ≤ 1919 → 544 ≤ Y → Y ≤ 5120 → Dec (Y / 4 ≤ DL) → (SUBTB DL Y ≤ 1783) ⊎ (2816 ≤ SUBTB DL Y)
-unfolding SUBTB
 sides DL Y reach low high (yes d) = inl (omega arith)
 sides DL Y reach low high (no d) = inr (omega arith)
 
@@ -49,13 +47,11 @@ normalized-range D Y h low high =
     sides DL Y reach low high (decLe (Y / 4) DL)
 
 pub scaled-word : (DQLN Y : ℕ) → ADDA DQLN Y < 4096
-unfolding ADDA
 scaled-word DQLN Y = omega arith
 
 -- what a codeword's normalized output, from -264 to 456, becomes: -128 to 1,736
 pub scaled-range : (DQLN Y : ℕ) → DQLN < 4096 → (DQLN + 264) % 4096 ≤ 720 → 544 ≤ Y → Y ≤ 5120
     → (ADDA DQLN Y + 128) % 4096 ≤ 1864
-unfolding ADDA
 scaled-range DQLN Y word near low high = omega arith
 
 -- so ANTILOG's exponent is 13 at most on either path wherever it is used, and DQ has a sign and 14 bits

@@ -16,11 +16,11 @@ LOG D =
     record { dl = (EXP << 7) + MANT; ds = DS }
 
 -- "Scale logarithmic version of difference signal by subtracting scale factor": DLN, 12 bits, two's complement
-unfoldable pub SUBTB : ℕ → ℕ → ℕ
+abbrev pub SUBTB : ℕ → ℕ → ℕ
 SUBTB DL Y = (DL + 4096 - (Y >> 2)) % 4096
 
 -- "Addition of scale factor to logarithmic version of quantized difference signal": DQL, 12 bits, two's complement
-unfoldable pub ADDA : ℕ → ℕ → ℕ
+abbrev pub ADDA : ℕ → ℕ → ℕ
 ADDA DQLN Y = (DQLN + (Y >> 2)) % 4096
 
 -- "Convert quantized difference signal from the logarithmic to the linear domain": DQ, a sign at place s and a magnitude below it.

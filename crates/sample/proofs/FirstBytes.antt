@@ -35,5 +35,5 @@ twelve =
     a 0xD5 0b00001 ∷ a 0x55 0b11110 ∷ a 0xD4 0b00101 ∷ a 0x2A 0b10000 ∷ []
 
 pub first-bytes : (core : ℕ) → map (λ (r : Row). encodeOf (resetOf core) (r .law) 5 (r .byte) .codeword) twelve ≡ map (λ (r : Row). r .due) twelve
-unfolding D normalOf I encodeOf rows bitLength outputs-mu outputs-A SS-mu SS-A EXPAND SUBTA LOG SUBTB MIX LIMA EXP MANT WAnMAG FMULT ACCUM find table11 decisions QUAN resetOf Y WB predicted SE
+unfolding D normalOf I encodeOf rows bitLength outputs-mu outputs-A SS-mu SS-A EXPAND SUBTA LOG MIX LIMA EXP MANT WAnMAG FMULT ACCUM find table11 decisions QUAN resetOf Y WB predicted SE
 first-bytes core = refl
