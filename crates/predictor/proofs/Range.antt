@@ -58,7 +58,6 @@ floatb-range SR h =
     packed 15 (SR / 32768) MAG (omega arith) (omega arith) (omega arith) small
 
 pub tone-range : (A2P : ℕ) → TONE A2P < 2
-unfolding TONE
 tone-range A2P = bit (leb 32768 A2P && ltb A2P 53760)
 
 pub trans-range : (TD YL DQ : ℕ) → TRANS TD YL DQ < 2
@@ -69,7 +68,6 @@ trans-range TD YL DQ =
     bit (ltb ((THR2 + THR2 / 2) / 2) (DQ % 16384) && eqb TD 1)
 
 pub trigb-range : (TR AnP n : ℕ) → AnP < n → TRIGB TR AnP < n
-unfolding TRIGB
 trigb-range TR AnP n h = pick-lt (eqb TR 0) h (omega arith)
 
 pub upa1-range : (PK0 PK1 A1 SIGPK : ℕ) → UPA1 PK0 PK1 A1 SIGPK < 65536

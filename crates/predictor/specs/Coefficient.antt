@@ -21,7 +21,7 @@ LIMD A1T A2P =
     pick (leb 32768 A1T && leb A1T A1LL) A1LL (pick (leb A1UL A1T && leb A1T 32767) A1UL A1T)
 
 -- "Predictor trigger block": AnR, BnR or TDR
-unfoldable pub TRIGB : ℕ → ℕ → ℕ
+abbrev pub TRIGB : ℕ → ℕ → ℕ
 TRIGB TR AnP = pick (eqb TR 0) AnP 0
 
 -- ULA1 of UPA1 and ULBn of UPB: the leak factor is 1/256

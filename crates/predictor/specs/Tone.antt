@@ -5,7 +5,7 @@ use lib.Dec.{eqb, leb, ltb}
 use Rattle.words.specs.Notation.{pick, _<<_, _>>_}
 
 -- "Partial band signal detection": TDP
-unfoldable pub TONE : ℕ → ℕ
+abbrev pub TONE : ℕ → ℕ
 TONE A2P = pick (leb 32768 A2P && ltb A2P 53760) 1 0
 
 -- "Transition detector": TR. G.726's has other numbers in THR2
