@@ -8,4 +8,4 @@ pub subta-spec : {M : Type 1} → statement M
 unfolding SUBTA
 subta-spec =
     tie.close
-    (tie.spec (search needs) (search needs) (search needs) (search needs) (search needs) (λ c. cc))
+    (tie.spec (search needs) (search needs) (search needs) (search needs) (search needs) (search needs))

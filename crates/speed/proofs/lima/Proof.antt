@@ -6,4 +6,4 @@ use Rattle.speed.proofs.lima.Tie as tie
 
 pub lima-spec : {M : Type 1} → statement M
 unfolding LIMA
-lima-spec = tie.close (tie.spec (search needs) (λ c. cc))
+lima-spec = tie.close (tie.spec (search needs) (search needs))

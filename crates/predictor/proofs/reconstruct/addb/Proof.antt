@@ -6,4 +6,4 @@ use Rattle.predictor.proofs.reconstruct.addb.Tie as tie
 
 pub addb-spec : {M : Type 1} → statement M
 unfolding ADDB
-addb-spec = tie.close (tie.spec (search needs) (search needs) (search needs) (λ c. cc))
+addb-spec = tie.close (tie.spec (search needs) (search needs) (search needs) (search needs))

@@ -6,4 +6,4 @@ use Rattle.predictor.proofs.reconstruct.sei.Tie as tie
 
 pub sei-spec : {M : Type 1} → statement M
 unfolding SEI
-sei-spec = tie.close (tie.spec (search needs) (search needs) (λ c. cc))
+sei-spec = tie.close (tie.spec (search needs) (search needs) (search needs))
