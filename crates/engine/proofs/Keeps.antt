@@ -1,4 +1,4 @@
--- A step from a state in range ends in range: all of 01's table, float words included, for every core and every core codeword.
+-- A step from a state in range ends in range: all of the rules' table, float words included, for every core and every core codeword.
 use mathlib.Core.Path.{_≡_, refl}
 use Prim.Native.Nat.{ℕ, _≤_, _<_}
 use native.Mathlib.Omega.{arith}

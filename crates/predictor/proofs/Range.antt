@@ -1,4 +1,4 @@
--- What each sub-block of the predictor gives is a word of the width that Table 7/G.727 says, and a float word as 01's table has it.
+-- What each sub-block of the predictor gives is a word of the width that Table 7/G.727 says, and a float word as the rules' table has it.
 use mathlib.Core.Bool.{_&&_}
 use mathlib.Core.Path.{_≡_}
 use Prim.Native.Nat.{ℕ, _+_, _-_, _*_, _/_, _%_, _^_, _≤_, _<_}

@@ -1,4 +1,4 @@
--- The scale factors stay in 01's ranges: YU and Y from 544 to 5,120, YL from 34,816 to 327,680.
+-- The scale factors stay in the rules' ranges: YU and Y from 544 to 5,120, YL from 34,816 to 327,680.
 use mathlib.Core.Bool.{true, false}
 use mathlib.Core.Path.{_≡_}
 use Prim.Native.Nat.{ℕ, _+_, _-_, _*_, _/_, _%_, _≤_, _<_}

@@ -1,4 +1,4 @@
--- Speed control stays in 01's ranges: DMS up to 3,584, DML up to 14,336, AP up to 512. Each average moves towards a target that is in the
+-- Speed control stays in the rules' ranges: DMS up to 3,584, DML up to 14,336, AP up to 512. Each average moves towards a target that is in the
 -- range itself, and never past it.
 use mathlib.Core.Bool.{_&&_}
 use mathlib.Core.Path.{_≡_}

@@ -1,4 +1,4 @@
--- 01's table as a test and as facts: each follows from the other. The reset state is in range, and its words are words.
+-- The rules' table as a test and as facts: each follows from the other. The reset state is in range, and its words are words.
 use mathlib.Core.Bool.{true}
 use mathlib.Core.List.{List}
 use mathlib.Core.Path.{_≡_, refl}
@@ -6,24 +6,15 @@ use Prim.Native.Nat.{ℕ, _/_, _%_, zero-le, _≤_}
 use native.Mathlib.Omega.{arith}
 use lib.ListN.{getD}
 use borrow.Author.Tests.{leb-true, ltb-true, le-leb, lt-ltb}
-use Rattle.words.specs.Within.{Within}
+use Rattle.words.specs.Within.{Within, within}
 use Rattle.words.proofs.Rows.{every-says, every-of}
+use Rattle.words.proofs.Within.{within-says, within-of}
 use Rattle.predictor.specs.Float.{FloatWord}
 use Rattle.state.specs.declared.State.{State}
 use Rattle.state.specs.Reset.{resetOf}
-use Rattle.state.specs.Range.{within, isFloatWord, floatWords, adaptationInRange, signalsInRange, inRange}
+use Rattle.state.specs.Range.{isFloatWord, floatWords, adaptationInRange, signalsInRange, inRange}
 use Rattle.state.specs.InRange.{FloatWords, InRange}
 use Rattle.state.specs.Words.{Words}
-
-within-says : (least greatest n : ℕ) → within least greatest n ≡ true → Within least greatest n
-unfolding within
-within-says l g n t =
-    let r = every-says _ t in
-    record { low = leb-true l n (r .0); high = leb-true n g (r .1 .0) }
-
-within-of : {least greatest n : ℕ} → Within least greatest n → within least greatest n ≡ true
-unfolding within
-within-of w = every-of _ (le-leb _ _ (w .low), (le-leb _ _ (w .high), tt))
 
 float-says : (most w : ℕ) → isFloatWord most w ≡ true → FloatWord most w
 unfolding isFloatWord

@@ -1,4 +1,4 @@
--- What the test of 01's table says of a state, as facts that a proof can use; proofs/Ranges.antt shows that the two are the same.
+-- What the test of the rules' table says of a state, as facts that a proof can use; proofs/Ranges.antt shows that the two are the same.
 use Prim.Native.Nat.{ℕ, _≤_}
 use mathlib.Core.List.{List}
 use lib.ListN.{getD}

@@ -1,4 +1,4 @@
--- 01's table of the state's ranges, row by row, as a test. A1, A2 and B1 to B6 may be any 16-bit word, so they have no test: Words.antt says that
+-- The table of the state's ranges (docs/RULES.md, "The state"), row by row, as a test. A1, A2 and B1 to B6 may be any 16-bit word, so they have no test: Words.antt says that
 -- they are words, and engine/proofs/Words.antt shows it of every state that a step gives.
 use mathlib.Core.Bool.{Bool}
 use mathlib.Core.List.{List, [], _∷_}
@@ -7,10 +7,8 @@ use lib.Dec.{leb, ltb}
 use lib.ListN.{getD}
 use Rattle.words.specs.Every.{every}
 use Rattle.words.specs.Notation.{_>>_}
+use Rattle.words.specs.Within.{within}
 use Rattle.state.specs.declared.State.{State}
-
-unfoldable pub within : ℕ → ℕ → ℕ → Bool
-within least greatest n = every (leb least n ∷ leb n greatest ∷ [])
 
 -- an 11-bit word: sign bit, exponent 0 to `most`, mantissa 32 to 63
 unfoldable pub isFloatWord : ℕ → ℕ → Bool

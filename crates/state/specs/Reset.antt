@@ -1,4 +1,4 @@
--- The reset state: the column "optional reset values" of Table 7/G.727, which 01's table repeats.
+-- The reset state: the column "optional reset values" of Table 7/G.727, which the rules' table repeats.
 use mathlib.Core.List.{[], _∷_}
 use Prim.Native.Nat.{ℕ}
 use Rattle.state.specs.declared.State.{State}

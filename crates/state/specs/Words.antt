@@ -1,4 +1,4 @@
--- What 01's table has no test for: A1, A2 and B1 to B6 are 16-bit words, and there are six B and six DQ. The code's State says so by its types;
+-- What the rules' table has no test for: A1, A2 and B1 to B6 are 16-bit words, and there are six B and six DQ. The code's State says so by its types;
 -- here a State holds numbers and lists, which could be any.
 use mathlib.Core.List.{List}
 use mathlib.Core.Path.{_≡_}

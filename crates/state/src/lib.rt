@@ -1,8 +1,9 @@
 // The state that an encoder and a decoder carry from sample to sample: the delayed variables of Table 7/G.727
 // and the core. A struct by value: a call takes one and hands the next one back.
 ghost use mathlib.Core.Path.{_≡_};
+ghost use Rattle.words.specs.Within.{within};
 ghost use Rattle.state.specs.Reset.{resetOf};
-ghost use Rattle.state.specs.Range.{within, isFloatWord, floatWords, adaptationInRange, signalsInRange, inRange};
+ghost use Rattle.state.specs.Range.{isFloatWord, floatWords, adaptationInRange, signalsInRange, inRange};
 
 pub struct State {
     pub yu: u16,
@@ -44,7 +45,7 @@ pub fn reset(core: u8) -> State
     }
 }
 
-// 01's table of ranges. A1, A2 and B1 to B6 may be any 16-bit word, so they have no test.
+// The rules' table of ranges. A1, A2 and B1 to B6 may be any 16-bit word, so they have no test.
 pub fn in_range(s: State) -> bool
     ensures { λ r. ⌜ r ≡ inRange s ⌝ }
 {

@@ -80,15 +80,15 @@ pub decode-spec : {M : Type 1} → statement M
 decode-spec =
     tie.close
     (tie.spec
-    (λ c κs. search needs)
-    (λ c κs. search needs)
-    (λ c κs. search needs)
+    (search needs)
+    (search needs)
+    (search needs)
     returns
-    (λ c κs. search needs)
+    (search needs)
     (λ c. omega (arith, long c))
     (λ c. omega (arith, long c))
     (λ c. omega arith)
     decode-into-requires
-    (λ c κs. search needs)
-    (λ c. search needs)
+    (search needs)
+    (search needs)
     returns-2)

@@ -99,8 +99,8 @@ decode-into-spec =
     (tie.spec
     Inv-loop
     μ-loop
-    (λ c κs. search needs)
-    (λ c. search needs)
+    (search needs)
+    (search needs)
     loop-holds
     codeword-at-requires
     decode-sample-requires

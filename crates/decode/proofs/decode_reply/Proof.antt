@@ -63,14 +63,14 @@ pub decode-reply-spec : {M : Type 1} → statement M
 decode-reply-spec =
     tie.close
     (tie.spec
-    (λ c κs. search needs)
+    (search needs)
     returns
-    (λ c κs. search needs)
+    (search needs)
     returns-2
-    (λ c κs. search needs)
-    (λ c κs. search needs)
+    (search needs)
+    (search needs)
     returns-3
     returns-4
-    (λ c κs. search needs)
+    (search needs)
     returns-5
     returns-6)

@@ -61,11 +61,11 @@ pub encode-spec : {M : Type 1} → statement M
 encode-spec =
     tie.close
     (tie.spec
-    (λ c κs. search needs)
-    (λ c κs. search needs)
+    (search needs)
+    (search needs)
     returns
     encoded-header-requires
     encode-into-requires
-    (λ c κs. search needs)
-    (λ c. search needs)
+    (search needs)
+    (search needs)
     returns-2)

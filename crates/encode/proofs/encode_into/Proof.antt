@@ -41,11 +41,11 @@ pub encode-into-spec : {M : Type 1} → statement M
 encode-into-spec =
     tie.close
     (tie.spec
-    (λ c κs. search needs)
-    (λ c. search needs)
+    (search needs)
+    (search needs)
     encode-all-requires
     (λ c. omega (arith, room (c .before .before), c .before .encode-all .kept))
     slice-aggregate-write-frame
     write-frame-requires
-    (λ c. search needs)
+    (search needs)
     returns)

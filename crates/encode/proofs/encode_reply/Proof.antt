@@ -70,15 +70,15 @@ pub encode-reply-spec : {M : Type 1} → statement M
 encode-reply-spec =
     tie.close
     (tie.spec
-    (λ c κs. search needs)
+    (search needs)
     returns
-    (λ c κs. search needs)
+    (search needs)
     returns-2
-    (λ c κs. search needs)
+    (search needs)
     returns-3
-    (λ c κs. search needs)
+    (search needs)
     returns-4
     encoded-header-requires
-    (λ c κs. search needs)
+    (search needs)
     returns-5
     returns-6)

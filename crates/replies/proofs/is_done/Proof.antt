@@ -4,4 +4,4 @@ use Rattle.replies.proofs.is_done.Statement.{statement}
 use Rattle.replies.proofs.is_done.Tie as tie
 
 pub is-done-spec : {M : Type 1} → statement M
-is-done-spec = tie.close (tie.spec (λ c κs. search needs) (λ c. cc))
+is-done-spec = tie.close (tie.spec (search needs) (λ c. cc))

@@ -25,8 +25,8 @@ pub reset-spec : {M : Type 1} → statement M
 reset-spec =
     tie.close
     (tie.spec
-    (λ c κs. search needs)
-    (λ c κs. search needs)
+    (search needs)
+    (search needs)
     returns
-    (λ c κs. search needs)
+    (search needs)
     returns-2)

@@ -9,19 +9,10 @@ use Rattle.sample.proofs.Adjusting.{sync-above, sync-same, sync-below}
 use Rattle.sample.proofs.adjusted.Statement.{statement}
 use Rattle.sample.proofs.adjusted.Tie as tie
 
-normalized-requires : tie.Need-normalized-requires
-normalized-requires c κs = search needs
-
 order-of-difference-requires : tie.Need-order-of-difference-requires
 order-of-difference-requires c κs =
     let at = c .before .args in
     (omega arith, rw (c .normalized .ensures) (dln-word (at .s) (at .law) (at .sp)), rw (c .normalized .ensures) (ds-bit (at .s) (at .law) (at .sp)))
-
-order-requires : tie.Need-order-requires
-order-requires c κs = search needs
-
-above-requires : tie.Need-above-requires
-above-requires c κs = search needs
 
 id-is : (c : tie.After-order) → c .before .order-of-difference .result ≡ ID (c .before .before .before .args .width) (normalOf (c .before .before .before .args .s) (c .before .before .before .args .law) (c .before .before .before .args .sp) .dln) (normalOf (c .before .before .before .args .s) (c .before .before .before .args .law) (c .before .before .before .args .sp) .ds)
 id-is c = rw (c .before .order-of-difference .ensures, c .before .before .normalized .ensures)
@@ -36,9 +27,6 @@ returns-2 c =
     let at = c .before .before in
     sym (sync-same _ _ _ _ _ _ (sym (id-is at) ∙ c .if2 .taken ∙ at .order .ensures))
 
-below-requires : tie.Need-below-requires
-below-requires c κs = search needs
-
 returns-3 : tie.Need-returns-3
 returns-3 c =
     let at = c .before .before .before in
@@ -50,11 +38,11 @@ pub adjusted-spec : {M : Type 1} → statement M
 adjusted-spec =
     tie.close
     (tie.spec
-    normalized-requires
+    (λ c κs. search needs)
     order-of-difference-requires
-    order-requires
-    above-requires
+    (search needs)
+    (search needs)
     returns
     returns-2
-    below-requires
+    (search needs)
     returns-3)

@@ -15,9 +15,6 @@ addb-requires c κs =
     let at = c .before in
     rw (se-is (at .args .s) (at .pre .1)) (se-word (at .args .s))
 
-compress-requires : tie.Need-compress-requires
-compress-requires c κs = search needs
-
 returns : tie.Need-returns
 unfolding SP
 returns c =
@@ -26,4 +23,4 @@ returns c =
 
 pub decoded-byte-spec : {M : Type 1} → statement M
 decoded-byte-spec =
-    tie.close (tie.spec quantized-difference-requires addb-requires compress-requires returns)
+    tie.close (tie.spec quantized-difference-requires addb-requires (search needs) returns)

@@ -13,19 +13,10 @@ is-codeword : (c : tie.After-quan) → c .quan .result ≡ I (c .before .before 
 unfolding I
 is-codeword c = rw (c .quan .ensures, c .before .normalized .ensures)
 
-estimate-requires : tie.Need-estimate-requires
-estimate-requires c κs = search needs
-
-normalized-requires : tie.Need-normalized-requires
-normalized-requires c κs = search needs
-
 quan-requires : tie.Need-quan-requires
 quan-requires c κs =
     let at = c .before .before .args in
     (rw (c .normalized .ensures) (dln-word (at .s) (at .law) (at .byte)), rw (c .normalized .ensures) (ds-bit (at .s) (at .law) (at .byte)))
-
-core-bits-requires : tie.Need-core-bits-requires
-core-bits-requires c κs = search needs
 
 advance-requires : tie.Need-advance-requires
 advance-requires c κs =
@@ -43,9 +34,9 @@ pub encode-sample-spec : {M : Type 1} → statement M
 encode-sample-spec =
     tie.close
     (tie.spec
-    estimate-requires
-    normalized-requires
+    (search needs)
+    (λ c κs. search needs)
     quan-requires
-    core-bits-requires
+    (search needs)
     advance-requires
     returns)

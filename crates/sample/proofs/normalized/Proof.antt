@@ -9,16 +9,10 @@ use Rattle.logarithm.proofs.Range.{subta-word, log-range}
 use Rattle.sample.proofs.normalized.Statement.{statement}
 use Rattle.sample.proofs.normalized.Tie as tie
 
-expand-requires : tie.Need-expand-requires
-expand-requires c κs = search needs
-
 subta-requires : tie.Need-subta-requires
 subta-requires c κs =
     let at = c .before in
     (rw (c .expand .ensures) (expand-lt _ _), rw (se-is (at .args .s) (at .pre .1)) (se-word (at .args .s)))
-
-log-requires : tie.Need-log-requires
-log-requires c κs = search needs
 
 subtb-requires : tie.Need-subtb-requires
 subtb-requires c κs =
@@ -37,4 +31,4 @@ returns c =
 
 pub normalized-spec : {M : Type 1} → statement M
 normalized-spec =
-    tie.close (tie.spec expand-requires subta-requires log-requires subtb-requires returns)
+    tie.close (tie.spec (search needs) subta-requires (search needs) subtb-requires returns)

@@ -27,9 +27,6 @@ part-requires c κs = tt
 is-of-requires : tie.Need-is-of-requires Inv-loop μ-loop
 is-of-requires c κs = tt
 
-slice-aggregate-say-wrong-field : tie.Need-slice-aggregate-say-wrong-field Inv-loop μ-loop
-slice-aggregate-say-wrong-field c = search needs
-
 field-at-requires : tie.Need-field-at-requires Inv-loop μ-loop
 field-at-requires c κs = tt
 
@@ -54,9 +51,6 @@ add-has-part c = omega arith
 has-part-requires : tie.Need-has-part-requires Inv-loop μ-loop
 has-part-requires c κs = tt
 
-slice-aggregate-say-wrong-field-2 : tie.Need-slice-aggregate-say-wrong-field-2 Inv-loop μ-loop
-slice-aggregate-say-wrong-field-2 c = search needs
-
 field-at-requires-2 : tie.Need-field-at-requires-2 Inv-loop μ-loop
 field-at-requires-2 c κs = tt
 
@@ -68,9 +62,6 @@ returns-2 c = tt
 
 say-requires : tie.Need-say-requires Inv-loop μ-loop
 say-requires c κs = tt
-
-slice-aggregate-say : tie.Need-slice-aggregate-say Inv-loop μ-loop
-slice-aggregate-say c = search needs
 
 say-requires-2 : tie.Need-say-requires-2 Inv-loop μ-loop
 say-requires-2 c κs = tt
@@ -89,7 +80,7 @@ fits-spec =
     add-part
     part-requires
     is-of-requires
-    slice-aggregate-say-wrong-field
+    (search needs)
     field-at-requires
     say-wrong-field-requires
     returns
@@ -98,11 +89,11 @@ fits-spec =
     loop-again
     add-has-part
     has-part-requires
-    slice-aggregate-say-wrong-field-2
+    (search needs)
     field-at-requires-2
     say-wrong-field-requires-2
     returns-2
     say-requires
-    slice-aggregate-say
+    (search needs)
     say-requires-2
     returns-3)

@@ -12,17 +12,11 @@ Inv-loop octets from₀ from = from ≤ length octets
 abbrev μ-loop : tie.MeasureT-loop
 μ-loop octets from₀ from = length octets - from
 
-slice-aggregate-say : tie.Need-slice-aggregate-say Inv-loop μ-loop
-slice-aggregate-say c = search needs
-
 say-requires : tie.Need-say-requires Inv-loop μ-loop
 say-requires c κs = tt
 
 returns : tie.Need-returns Inv-loop μ-loop
 returns c = tt
-
-slice-aggregate-say-2 : tie.Need-slice-aggregate-say-2 Inv-loop μ-loop
-slice-aggregate-say-2 c = search needs
 
 say-requires-2 : tie.Need-say-requires-2 Inv-loop μ-loop
 say-requires-2 c κs = tt
@@ -60,10 +54,10 @@ say-octets-spec =
     (tie.spec
     Inv-loop
     μ-loop
-    slice-aggregate-say
+    (search needs)
     say-requires
     returns
-    slice-aggregate-say-2
+    (search needs)
     say-requires-2
     loop-holds
     end-of-piece-requires

@@ -24,9 +24,9 @@ pub due-length-spec : {M : Type 1} → statement M
 due-length-spec =
     tie.close
     (tie.spec
-    (λ c κs. search needs)
-    (λ c. search needs)
-    (λ c. search needs)
+    (search needs)
+    (search needs)
+    (search needs)
     mul-result
     add-result
     returns)

@@ -51,9 +51,9 @@ frame-reply-spec =
     tie.close
     (tie.spec
     returns
-    (λ c κs. search needs)
-    (λ c κs. search needs)
+    (search needs)
+    (search needs)
     returns-2
-    (λ c κs. search needs)
+    (search needs)
     returns-3
     returns-4)

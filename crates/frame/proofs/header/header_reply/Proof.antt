@@ -36,10 +36,10 @@ pub header-reply-spec : {M : Type 1} → statement M
 header-reply-spec =
     tie.close
     (tie.spec
-    (λ c κs. search needs)
+    (search needs)
     returns
-    (λ c κs. search needs)
+    (search needs)
     returns-2
-    (λ c κs. search needs)
+    (search needs)
     returns-3
     returns-4)

@@ -10,4 +10,4 @@ returns-2 : tie.Need-returns-2
 returns-2 c = sym (List·getD-eq-default (now (c .before .args .frame)) 0 (c .if1 .left))
 
 pub octet-at-spec : {M : Type 1} → statement M
-octet-at-spec = tie.close (tie.spec (λ c. search needs) (λ c. search needs) returns-2)
+octet-at-spec = tie.close (tie.spec (search needs) (search needs) returns-2)

@@ -4,11 +4,8 @@ use Rattle.frame.proofs.Gathering.{shifted}
 use Rattle.frame.proofs.planes.shift_in.Statement.{statement}
 use Rattle.frame.proofs.planes.shift_in.Tie as tie
 
-shr-result : tie.Need-shr-result
-shr-result c = search needs
-
 returns : tie.Need-returns
 returns c = shifted (c .args .there) (c .args .b) (c .args .c) (c .pre .0)
 
 pub shift-in-spec : {M : Type 1} → statement M
-shift-in-spec = tie.close (tie.spec shr-result returns)
+shift-in-spec = tie.close (tie.spec (search needs) returns)

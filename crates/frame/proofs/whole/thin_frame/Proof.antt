@@ -57,8 +57,8 @@ pub thin-frame-spec : {M : Type 1} → statement M
 thin-frame-spec =
     tie.close
     (tie.spec
-    (λ c κs. search needs)
-    (λ c κs. search needs)
+    (search needs)
+    (search needs)
     slice-aggregate-copy
     copy-requires
     head-requires

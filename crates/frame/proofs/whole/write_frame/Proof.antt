@@ -48,10 +48,10 @@ pub write-frame-spec : {M : Type 1} → statement M
 write-frame-spec =
     tie.close
     (tie.spec
-    (λ c κs. search needs)
+    (search needs)
     (λ c. omega (arith, room c))
     (λ c. omega (arith, room c))
-    (λ c. search needs)
+    (search needs)
     write-planes-requires
     (λ c κs. c .before .before .before .before .before .before .before .pre .0)
     slice-write-out

@@ -5,9 +5,6 @@ use Rattle.quantizer.proofs.Halves.{halves}
 use Rattle.vectors.proofs.codewords.held.Statement.{statement}
 use Rattle.vectors.proofs.codewords.held.Tie as tie
 
-half-requires : tie.Need-half-requires
-half-requires c κs = search needs
-
 sub-result : tie.Need-sub-result
 sub-result c = omega (arith, halves (c .before .pre))
 
@@ -15,4 +12,4 @@ returns : tie.Need-returns
 returns c = omega (arith, halves (c .before .pre))
 
 pub held-spec : {M : Type 1} → statement M
-held-spec = tie.close (tie.spec half-requires sub-result returns)
+held-spec = tie.close (tie.spec (search needs) sub-result returns)

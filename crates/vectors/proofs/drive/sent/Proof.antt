@@ -4,14 +4,8 @@ use Rattle.vectors.proofs.Keeps.{encode-sent}
 use Rattle.vectors.proofs.drive.sent.Statement.{statement}
 use Rattle.vectors.proofs.drive.sent.Tie as tie
 
-law-in-requires : tie.Need-law-in-requires
-law-in-requires c κs = search needs
-
-encode-sample-requires : tie.Need-encode-sample-requires
-encode-sample-requires c κs = search needs
-
 returns : tie.Need-returns
 returns c = rw (c .encode-sample .ensures) (encode-sent (c .before .before .before .pre .encoder) _ _)
 
 pub sent-spec : {M : Type 1} → statement M
-sent-spec = tie.close (tie.spec law-in-requires encode-sample-requires returns)
+sent-spec = tie.close (tie.spec (search needs) (λ c κs. search needs) returns)

@@ -11,23 +11,8 @@ from-reset c =
     let kept : Kept (start .args .run .width) (c .before .reset .result) = rw (c .before .reset .ensures) (reset-kept (start .pre .0)) in
     ready-of (c .uncounted .ensures) kept kept
 
-reset-requires : tie.Need-reset-requires
-reset-requires c κs = search needs
-
-uncounted-requires : tie.Need-uncounted-requires
-uncounted-requires c κs = search needs
-
-law-in-requires : tie.Need-law-in-requires
-law-in-requires c κs = search needs
-
-octets-of-requires : tie.Need-octets-of-requires
-octets-of-requires c κs = search needs
-
 encode-all-requires : tie.Need-encode-all-requires
 encode-all-requires c κs = from-reset (c .before .before .before)
-
-uncounted-requires-2 : tie.Need-uncounted-requires-2
-uncounted-requires-2 c κs = search needs
 
 returns : tie.Need-returns
 returns c =
@@ -41,11 +26,11 @@ pub started-spec : {M : Type 1} → statement M
 started-spec =
     tie.close
     (tie.spec
-    reset-requires
-    uncounted-requires
-    law-in-requires
-    octets-of-requires
+    (search needs)
+    (search needs)
+    (search needs)
+    (search needs)
     encode-all-requires
-    uncounted-requires-2
+    (search needs)
     returns
     returns-2)

@@ -5,15 +5,6 @@ use native.Mathlib.Omega.{arith}
 use Rattle.vectors.proofs.magnitudes.magnitude_at.Statement.{statement}
 use Rattle.vectors.proofs.magnitudes.magnitude_at.Tie as tie
 
-spot-of-requires : tie.Need-spot-of-requires
-spot-of-requires c κs = search needs
-
-magnitude-in-requires : tie.Need-magnitude-in-requires
-magnitude-in-requires c κs = search needs
-
-mul-result : tie.Need-mul-result
-mul-result c = search needs
-
 returns : tie.Need-returns
 returns c = rw (c .if1 .taken) (omega arith)
 
@@ -32,9 +23,9 @@ pub magnitude-at-spec : {M : Type 1} → statement M
 magnitude-at-spec =
     tie.close
     (tie.spec
-    spot-of-requires
-    magnitude-in-requires
-    mul-result
+    (search needs)
+    (search needs)
+    (search needs)
     returns
     returns-2
     returns-3

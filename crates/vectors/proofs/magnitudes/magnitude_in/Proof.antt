@@ -39,25 +39,13 @@ runs =
     ∷ 16_0256
     ∷ []
 
-mul-run : tie.Need-mul-run
-mul-run c = search needs
-
-array-read-run : tie.Need-array-read-run
-array-read-run c = search needs
-
-cast-result : tie.Need-cast-result
-cast-result c = search needs
-
 returns : tie.Need-returns
 unfolding runs
 returns c = leb→le _ _ (below-at (λ k. leb (getD runs k 0 / 100000 % 10) 7) 27 (c .before .args .row) tt (c .before .pre))
-
-cast-result-2 : tie.Need-cast-result-2
-cast-result-2 c = search needs
 
 returns-2 : tie.Need-returns-2
 unfolding runs
 returns-2 c = leb→le _ _ (below-at (λ k. leb (getD runs k 0 / 10000 % 10) 7) 27 (c .before .args .row) tt (c .before .pre))
 
 pub magnitude-in-spec : {M : Type 1} → statement M
-magnitude-in-spec = tie.close (tie.spec mul-run array-read-run cast-result returns cast-result-2 returns-2)
+magnitude-in-spec = tie.close (tie.spec (search needs) (search needs) (search needs) returns (search needs) returns-2)

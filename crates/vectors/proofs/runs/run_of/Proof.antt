@@ -12,12 +12,9 @@ use Rattle.vectors.proofs.runs.run_of.Tie as tie
 pairs : List ℕ
 pairs = 52 ∷ 42 ∷ 32 ∷ 22 ∷ 53 ∷ 43 ∷ 33 ∷ 54 ∷ 44 ∷ []
 
-array-read-pair : tie.Need-array-read-pair
-array-read-pair c = search needs
-
 returns : tie.Need-returns
 unfolding pairs
 returns c = pair-says _ _ (is-true _ (below-at (λ k. isPair (getD pairs k 0 / 10) (getD pairs k 0 % 10)) 9 (c .args .p) tt (c .pre)))
 
 pub run-of-spec : {M : Type 1} → statement M
-run-of-spec = tie.close (tie.spec array-read-pair returns)
+run-of-spec = tie.close (tie.spec (search needs) returns)
