@@ -19,9 +19,12 @@ use Rattle.frame.specs.Rows.{frameRows}
 use Rattle.replies.specs.Reply.{numberOf, isLaw}
 use Rattle.decode.specs.declared.DecodeAnswer.{DecodeAnswer}
 
--- the rows behind the frame's own, for a length of out; and all of them, for a frame of n octets with the header h
+-- the rows behind the frame's own, for a length of out; and all of them, for a frame of n octets with the header h: 4, 9, the frame's 5, 1,
+-- 2 and 6, then 7 and 3
 abbrev pub decodeRows : State → Header → ℕ → List Row
-decodeRows s h room = (7, not (eqb (h .core) (s .core))) ∷ (3, ltb room (sampleCount h)) ∷ []
+decodeRows s h room =
+    (7, not (eqb (h .core) (s .core))) ∷
+    (3, ltb room (sampleCount h)) ∷ []
 
 unfoldable pub decodeNumber : State → ℕ → Header → ℕ → ℕ → ℕ
 decodeNumber s LAW h n room = first ((4, not (inRange s)) ∷ (9, not (isLaw LAW)) ∷ (frameRows h n ++ decodeRows s h room))

@@ -19,9 +19,12 @@ use Rattle.drop_planes.specs.declared.DropAnswer.{DropAnswer}
 abbrev pub isTarget : Header → ℕ → Bool
 isTarget h w = within (h .core) (h .width) w
 
--- the rows behind the frame's own, for a target width and a length of out; and all of them, for a frame of n octets with the header h
+-- the rows behind the frame's own, for a target width and a length of out; and all of them, for a frame of n octets with the header h: the
+-- frame's 5, 1, 2 and 6, then 8 and 3
 abbrev pub dropRows : Header → ℕ → ℕ → List Row
-dropRows h w room = (8, not (isTarget h w)) ∷ (3, ltb room (dueLength (narrowed w h))) ∷ []
+dropRows h w room =
+    (8, not (isTarget h w)) ∷
+    (3, ltb room (dueLength (narrowed w h))) ∷ []
 
 unfoldable pub dropNumber : Header → ℕ → ℕ → ℕ → ℕ
 dropNumber h n w room = first (frameRows h n ++ dropRows h w room)
