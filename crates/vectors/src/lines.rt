@@ -53,7 +53,7 @@ fn do_ends_differ(kind: Kind, t: Track) -> bool {
 
 pub fn write_sample(note: Note, codeword: u8, d: Decoded) {
     if note.dumped {
-        heard(given(note), codeword, d)
+        answered(given(note), codeword, d)
             .octet(b'\n')
             .write(STDOUT_FILENO);
     }
@@ -68,7 +68,7 @@ fn given(note: Note) -> Line {
     line.text(b" -")
 }
 
-fn heard(line: Line, codeword: u8, d: Decoded) -> Line {
+fn answered(line: Line, codeword: u8, d: Decoded) -> Line {
     let state = d.state;
     let byte = d.byte as u64;
     let moved = d.moved as u64;

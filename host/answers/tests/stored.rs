@@ -80,11 +80,11 @@ fn both_ends_have_one_state() {
     let stored = stored();
     for group in ["streams", "jumps"] {
         for three in stored.group(group).chunks(3) {
-            let [(_, sent), (_, thin), (_, heard)] = three else {
+            let [(_, sent), (_, thin), (_, decoded)] = three else {
                 panic!("a frame is three lines");
             };
-            assert_eq!([sent.number, thin.number, heard.number], [0; 3]);
-            assert_eq!(sent.state, heard.state);
+            assert_eq!([sent.number, thin.number, decoded.number], [0; 3]);
+            assert_eq!(sent.state, decoded.state);
         }
     }
     for two in stored.group("changed").chunks(2) {
@@ -170,16 +170,17 @@ fn the_calls_are_many_sided() {
             _ => None,
         });
     let done: Vec<_> = calls.filter(|(_, answer)| answer.number == 0).collect();
-    let (mut coded, mut heard, mut thinned) = (BTreeSet::new(), BTreeSet::new(), BTreeSet::new());
+    let (mut encoded, mut decoded, mut thinned) =
+        (BTreeSet::new(), BTreeSet::new(), BTreeSet::new());
     for (call, _) in &done {
         match call {
-            Call::Encode(c) => drop(coded.insert((c.law, c.width, c.state.core))),
-            Call::Decode(c) => drop(heard.insert((c.law, c.frame[0]))),
+            Call::Encode(c) => drop(encoded.insert((c.law, c.width, c.state.core))),
+            Call::Decode(c) => drop(decoded.insert((c.law, c.frame[0]))),
             Call::Drop(c) => drop(thinned.insert((c.frame[0], c.width))),
             _ => {}
         };
     }
-    assert_eq!((coded.len(), heard.len(), thinned.len()), (18, 18, 19));
+    assert_eq!((encoded.len(), decoded.len(), thinned.len()), (18, 18, 19));
     assert!(done.iter().any(|(_, answer)| answer.moved > 0));
     let tones = done
         .iter()

@@ -70,9 +70,9 @@ fn encode(plan: Plan, verbose: bool, streams: &mut Streams) -> Result<(), String
             return Ok(());
         }
         fill(&mut samples, plan.law, place, streams)?;
-        let coded = calls::encode(state, law, plan.width, &samples, &mut out);
-        state = done(coded.number, place, coded.state)?;
-        streams.put(&out[..coded.octets])?;
+        let encoded = calls::encode(state, law, plan.width, &samples, &mut out);
+        state = done(encoded.number, place, encoded.state)?;
+        streams.put(&out[..encoded.octets])?;
         if verbose {
             streams.show(place, &state)?;
         }
@@ -118,9 +118,9 @@ fn decode(law: Law, verbose: bool, streams: &mut Streams) -> Result<(), String> 
     let mut kept = None;
     while let Some(frame) = input::frame(streams.input, place)? {
         let state = kept.unwrap_or_else(|| reset(frame[0] & 7).state);
-        let heard = calls::decode(state, law.number(), &frame, &mut out);
-        let next = done(heard.number, place, heard.state)?;
-        streams.put(&out[..heard.octets])?;
+        let answer = calls::decode(state, law.number(), &frame, &mut out);
+        let next = done(answer.number, place, answer.state)?;
+        streams.put(&out[..answer.octets])?;
         if verbose {
             streams.show(place, &next)?;
         }

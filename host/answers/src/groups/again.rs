@@ -30,18 +30,18 @@ pub fn again(page: &mut Page) {
 }
 
 fn decoded_again(page: &mut Page, s: State) {
-    let heard = |state, law, frame, length| decode(state, law, frame, room(length));
+    let decoded = |state, law, frame, length| decode(state, law, frame, room(length));
     let frame = || octets(0x63, 2, 10);
-    let sound = heard(s, 1, frame(), 16);
+    let sound = decoded(s, 1, frame(), 16);
     for (number, refused) in [
-        (4, heard(unfit(3), 1, frame(), 16)),
-        (9, heard(s, 2, frame(), 16)),
-        (5, heard(s, 1, octets(0x23, 2, 10), 16)),
-        (1, heard(s, 1, octets(0x61, 2, 10), 16)),
-        (2, heard(s, 1, octets(0x63, 0, 10), 16)),
-        (6, heard(s, 1, octets(0x63, 2, 11), 16)),
-        (7, heard(s, 1, octets(0x62, 2, 10), 16)),
-        (3, heard(s, 1, frame(), 15)),
+        (4, decoded(unfit(3), 1, frame(), 16)),
+        (9, decoded(s, 2, frame(), 16)),
+        (5, decoded(s, 1, octets(0x23, 2, 10), 16)),
+        (1, decoded(s, 1, octets(0x61, 2, 10), 16)),
+        (2, decoded(s, 1, octets(0x63, 0, 10), 16)),
+        (6, decoded(s, 1, octets(0x63, 2, 11), 16)),
+        (7, decoded(s, 1, octets(0x62, 2, 10), 16)),
+        (3, decoded(s, 1, frame(), 15)),
     ] {
         three(page, Due::Done(16), &sound, number, refused);
     }

@@ -84,8 +84,8 @@ fn headers(page: &mut Page) {
         } else {
             Due::Refused(7)
         };
-        let heard = wrong.map_or(other_core, Due::Refused);
-        page.due(heard, decode(State::reset(3), 0, frame(), room(9)));
+        let decoded = wrong.map_or(other_core, Due::Refused);
+        page.due(decoded, decode(State::reset(3), 0, frame(), room(9)));
         let thinned = wrong.map_or(Due::Done(length), Due::Refused);
         page.due(thinned, drop(frame(), width, room(10)));
     }

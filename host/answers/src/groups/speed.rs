@@ -10,7 +10,7 @@ use random::Random;
 use second::state::State;
 
 /// One frame of 8 samples at the core's own width, with a first codeword.
-fn heard(page: &mut Page, random: &mut Random, state: State, first: u8) {
+fn decoded(page: &mut Page, random: &mut Random, state: State, first: u8) {
     let core = state.core;
     let codewords = drawn_codewords(random, core, first);
     let law = random.below(2) as u8;
@@ -45,7 +45,7 @@ pub fn mixing(page: &mut Page) {
                 ..State::reset(core)
             };
             let first = any_codeword(&mut random, core);
-            heard(page, &mut random, state, first);
+            decoded(page, &mut random, state, first);
         }
     }
 }
@@ -72,7 +72,7 @@ pub fn scales(page: &mut Page) {
                     yl: yl.clamp(34_816, 327_680),
                     ..at_scale(core, y)
                 };
-                heard(page, &mut random, state, magnitude);
+                decoded(page, &mut random, state, magnitude);
             }
         }
     }
@@ -91,7 +91,7 @@ pub fn averages(page: &mut Page) {
             _ => near_steady(&mut random, core),
         };
         let first = any_codeword(&mut random, core);
-        heard(page, &mut random, state, first);
+        decoded(page, &mut random, state, first);
     }
 }
 

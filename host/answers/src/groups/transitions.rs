@@ -67,7 +67,7 @@ fn about_threshold(page: &mut Page, reached: &[Reached], core: u8, yl: u32, roun
             } else {
                 (1 << core) - 1 - magnitude
             };
-            heard(page, tone(core, yl, y), first);
+            decoded(page, tone(core, yl, y), first);
         }
     }
 }
@@ -84,7 +84,7 @@ fn tone(core: u8, yl: u32, y: u16) -> State {
 }
 
 /// The first codeword decides; what follows is faint.
-fn heard(page: &mut Page, state: State, first: u8) {
+fn decoded(page: &mut Page, state: State, first: u8) {
     let codewords = [first, 0, 0, 0, 0, 0, 0, 0];
     page.ask(decode_fitting(
         state,
@@ -101,7 +101,7 @@ fn without_tone(page: &mut Page) {
                 td,
                 ..tone(core, 100_000, 5_120)
             };
-            heard(page, state, (1 << (core - 1)) - 1);
+            decoded(page, state, (1 << (core - 1)) - 1);
         }
     }
     page.note(
@@ -112,5 +112,5 @@ fn without_tone(page: &mut Page) {
         td: 1,
         ..at_scale(4, 5_120)
     };
-    heard(page, state, 7);
+    decoded(page, state, 7);
 }

@@ -7,8 +7,8 @@ use Rattle.vectors.proofs.drive.step.Tie as tie
 returns : tie.Need-returns
 returns c =
     let start = c .before .before .before .before .before .before .before .before .before .before in
-    let heard = c .before .before .before .before .before .before .before .decode-sample in
-    record { encoder = start .pre .1 .state; decoder = rw (heard .ensures) (decode-kept (start .pre .0 .decoder) _ (start .pre .1 .codeword)) }
+    let decoded = c .before .before .before .before .before .before .before .decode-sample in
+    record { encoder = start .pre .1 .state; decoder = rw (decoded .ensures) (decode-kept (start .pre .0 .decoder) _ (start .pre .1 .codeword)) }
 
 pub step-spec : {M : Type 1} → statement M
 step-spec =
