@@ -4,9 +4,9 @@ use mathlib.Core.List.{List, [], _∷_, map}
 use Prim.Native.Nat.{ℕ}
 use Rattle.lists.specs.Tabulate.{entries, tabulate}
 use Rattle.frame.specs.declared.header.Header.{Header}
-use Rattle.frame.specs.Header.{edition, headerLength, head, headerOctets, headerOf}
+use Rattle.frame.specs.Header.{edition, headerLength, headerOctets, headerOf}
 use Rattle.frame.specs.Planes.{bit, gather, octetAt, plane, planes, frameOf}
-use Rattle.frame.specs.Read.{collect, codewordAt, codewords, body, received, narrowed, thinned}
+use Rattle.frame.specs.Read.{collect, codewordAt, codewords, body, received, thinned}
 
 pub record Example : Type 0 where
   pub codewords : List ℕ

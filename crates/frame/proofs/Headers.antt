@@ -1,6 +1,6 @@
 -- The header written and read back: a frame begins with its header's octets, and the header and the planes that are read are those that were
 -- put there (docs/RULES.md, "The frame").
-use mathlib.Core.Path.{_≡_, refl, sym, _∙_}
+use mathlib.Core.Path.{_≡_, refl, _∙_}
 use mathlib.Core.List.{List, [], _∷_, _++_}
 use Prim.Native.Nat.{ℕ, suc, _+_, _*_, _≤_, _<_}
 use native.Mathlib.Omega.{arith}

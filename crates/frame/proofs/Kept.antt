@@ -1,5 +1,5 @@
 -- Soundness is kept: a frame that is written with a sound header is sound, and so is a sound frame thinned to a width that it allows.
-use mathlib.Core.Path.{_≡_, _∙_}
+use mathlib.Core.Path.{_≡_}
 use mathlib.Core.List.{List}
 use Prim.Native.Nat.{ℕ, _*_, _≤_, _<_}
 use native.Mathlib.Nat.{mul-le-mul-right}

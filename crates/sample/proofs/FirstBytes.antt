@@ -6,7 +6,7 @@ use Rattle.words.specs.Length.{rows, bitLength}
 use Rattle.g711.specs.G711.{outputs-mu, outputs-A}
 use Rattle.g711.specs.Expand.{SS-mu, SS-A, EXPAND}
 use Rattle.logarithm.specs.Difference.{SUBTA}
-use Rattle.logarithm.specs.Logarithm.{LOG, SUBTB}
+use Rattle.logarithm.specs.Logarithm.{LOG}
 use Rattle.scale.specs.Scale.{MIX}
 use Rattle.speed.specs.Speed.{LIMA}
 use Rattle.predictor.specs.Float.{EXP, MANT}

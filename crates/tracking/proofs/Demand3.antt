@@ -1,17 +1,15 @@
 -- Demand 3: no thrown-away bit reaches the far end's predictor. From one reset on, whatever was dropped at however many base stations, and
 -- whichever law either end speaks, the decoder's state equals the encoder's after every frame. Both are the states of demand 2: what
 -- encodeState and decodeState of the calls' contracts say, which a call that keeps the reset state does not give.
-use mathlib.Core.List.{List, [], _∷_, map}
-use mathlib.Core.Path.{_≡_, sym, _∙_}
+use mathlib.Core.List.{List, [], _∷_}
+use mathlib.Core.Path.{_≡_, _∙_}
 use Prim.Native.Nat.{ℕ, _<_}
 use native.Mathlib.Omega.{arith}
 use lib.ListN.{length}
 use borrow.Author.Tests.{eq-eqb}
 use Rattle.words.specs.Within.{Within}
-use Rattle.lists.specs.Run.{last, outs}
 use Rattle.quantizer.specs.Pair.{Pair}
 use Rattle.state.specs.declared.State.{State}
-use Rattle.sample.specs.Decode.{decoderNext}
 use Rattle.frame.specs.Header.{headerOf}
 use Rattle.frame.specs.Read.{received, thinned}
 use Rattle.frame.specs.Sound.{Sound}
@@ -25,7 +23,7 @@ use Rattle.encode.specs.Inner.{Encodable}
 use Rattle.encode.proofs.Encoding.{codewords-length}
 use Rattle.decode.specs.Decode.{decodedState, decodeState}
 use Rattle.tracking.specs.Stream.{Transfer, encoderAfter, decoderAfter, Unrefused, AllUnrefused, EqualThroughout}
-use Rattle.tracking.proofs.Runs.{thin, states-track, codewords-short}
+use Rattle.tracking.proofs.Runs.{states-track, codewords-short}
 use Rattle.tracking.proofs.Frames.{encodable, written-is, encoder-is, finally, arrives}
 
 -- the frame of a run of samples that encode takes: it is sound, its header is the encoder's, and it reads back as the run's codewords

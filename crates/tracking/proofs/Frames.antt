@@ -15,7 +15,7 @@ use Rattle.frame.proofs.Sizes.{frame-length}
 use Rattle.frame.proofs.Headers.{thinned-header}
 use Rattle.frame.proofs.Thinning.{thinned-same, thinned-thinned}
 use Rattle.frame.proofs.Kept.{thinned-sound, thinned-length}
-use Rattle.encode.specs.Encode.{encodedHeader, encodedFrame, encodedCodewords, encodedState, encodeReply, encodeOctets, encodeState, encodeOut}
+use Rattle.encode.specs.Encode.{encodedFrame, encodedCodewords, encodedState, encodeReply, encodeOctets, encodeState, encodeOut}
 use Rattle.encode.specs.Inner.{Encodable}
 use Rattle.encode.proofs.Fitness.{encode-says}
 use Rattle.drop_planes.specs.Drop.{dropReply, dropOctets, dropOut}

@@ -4,3 +4,4 @@ pub mod Tests
 pub mod Rows
 pub mod First
 pub mod Within
+pub mod Masks

@@ -1,11 +1,10 @@
 -- `encode::encode_into` meets its contract.
 use borrow.Author.Needs.{needs}
-use mathlib.Core.Path.{_≡_, sym, _∙_}
+use mathlib.Core.Path.{sym, _∙_}
 use Prim.Native.Nat.{_≤_}
 use native.Mathlib.Omega.{arith}
 use lib.ListN.{length}
 use denote.Ref.{now}
-use Rattle.quantizer.specs.Pair.{Pair}
 use Rattle.encode.proofs.Encoding.{codewords-length, codewords-taken}
 use Rattle.encode.proofs.encode_into.Statement.{statement}
 use Rattle.encode.proofs.encode_into.Tie as tie

@@ -6,13 +6,6 @@ use Rattle.encode.proofs.Answers.{encode-room}
 use Rattle.drop_planes.proofs.Answers.{drop-room}
 use Rattle.example.proofs.send.Statement.{statement}
 use Rattle.example.proofs.send.Tie as tie
-use Rattle.example.proofs.send.Reads as reads
-use Rattle.example.proofs.send.Lts as lts
-use Rattle.encode.proofs.encode.Reads as encode-reads
-use Rattle.decode.proofs.decode.Reads as decode-reads
-use Rattle.drop_planes.proofs.drop_planes.Reads as drop-planes-reads
-use Rattle.example.proofs.compare.Reads as compare-reads
-use Rattle.example.proofs.tell.Reads as tell-reads
 
 array-share-prefix-radio : tie.Need-array-share-prefix-radio
 array-share-prefix-radio c = rw (c .before .encode .ensures .octets, c .radio2 .given) (encode-room _ _ _ _ _)

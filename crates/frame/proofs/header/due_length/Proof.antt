@@ -1,6 +1,5 @@
 -- `frame::header::due_length` meets its contract: the product of two octets is a length, and there is room for a header before it.
 use borrow.Author.Needs.{needs}
-use mathlib.Core.Path.{_≡_}
 use Prim.Native.Nat.{_*_, _≤_}
 use native.Mathlib.Nat.{mul-le-mul}
 use native.Mathlib.Omega.{arith}

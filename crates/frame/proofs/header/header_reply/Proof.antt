@@ -5,7 +5,7 @@ use mathlib.Core.Path.{_≡_, sym, _∙_}
 use borrow.Author.Tests.{not-true, not-false}
 use Rattle.words.specs.First.{first}
 use Rattle.quantizer.specs.Pair.{isPair}
-use Rattle.frame.specs.Header.{isEdition, isGroups}
+use Rattle.frame.specs.Header.{isEdition}
 use Rattle.frame.proofs.header.header_reply.Statement.{statement}
 use Rattle.frame.proofs.header.header_reply.Tie as tie
 

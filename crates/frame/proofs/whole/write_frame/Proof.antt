@@ -1,7 +1,7 @@
 -- `frame::whole::write_frame` meets its contract: the planes behind the header's octets.
 use borrow.Author.Needs.{needs}
 use mathlib.Core.List.{append-assoc}
-use mathlib.Core.Path.{_≡_, _∙_}
+use mathlib.Core.Path.{_∙_}
 use Prim.Native.Nat.{_≤_}
 use native.Mathlib.Omega.{arith}
 use lib.ListN.{length, length-drop, length-set}
