@@ -10,10 +10,11 @@ use Rattle.words.specs.Within.{Within, within}
 use Rattle.words.proofs.Rows.{every-says, every-of}
 use Rattle.words.proofs.Within.{within-says, within-of}
 use Rattle.predictor.specs.Float.{FloatWord}
+use Rattle.state.specs.declared.memory.Memory.{Memory}
 use Rattle.state.specs.declared.State.{State}
-use Rattle.state.specs.Reset.{resetOf}
-use Rattle.state.specs.Range.{isFloatWord, floatWords, adaptationInRange, signalsInRange, inRange}
-use Rattle.state.specs.InRange.{FloatWords, InRange}
+use Rattle.state.specs.Reset.{resetMemory, resetOf}
+use Rattle.state.specs.Range.{isFloatWord, floatWords, adaptationInRange, signalsInRange, memoryInRange, inRange}
+use Rattle.state.specs.InRange.{FloatWords, MemoryInRange, InRange}
 use Rattle.state.specs.Words.{Words}
 
 float-says : (most w : ℕ) → isFloatWord most w ≡ true → FloatWord most w
@@ -44,44 +45,53 @@ unfolding floatWords
 words-of f =
     every-of _ (float-of (f .dq1), (float-of (f .dq2), (float-of (f .dq3), (float-of (f .dq4), (float-of (f .dq5), (float-of (f .dq6), tt))))))
 
-pub range-says : (s : State) → inRange s ≡ true → InRange s
-unfolding inRange adaptationInRange signalsInRange
-range-says s t =
+memory-says : (m : Memory) → memoryInRange m ≡ true → MemoryInRange m
+unfolding memoryInRange adaptationInRange signalsInRange
+memory-says m t =
     let r = every-says _ t in
     let a = every-says _ (r .0) in
     let g = every-says _ (r .1 .0) in
     record {
-      fast = within-says 544 5120 (s .yu) (a .0);
-      slow = within-says 34816 327680 (s .yl) (a .1 .0);
-      short = within-says 0 3584 (s .dms) (a .1 .1 .0) .high;
-      long = within-says 0 14336 (s .dml) (a .1 .1 .1 .0) .high;
-      speed = within-says 0 512 (s .ap) (a .1 .1 .1 .1 .0) .high;
-      differences = words-say (s .dq) (g .0);
-      signal1 = float-says 15 (s .sr1) (g .1 .0);
-      signal2 = float-says 15 (s .sr2) (g .1 .1 .0);
-      sign1 = within-says 0 1 (s .pk1) (g .1 .1 .1 .0) .high;
-      sign2 = within-says 0 1 (s .pk2) (g .1 .1 .1 .1 .0) .high;
-      tone = within-says 0 1 (s .td) (g .1 .1 .1 .1 .1 .0) .high;
-      cores = within-says 2 4 (s .core) (r .1 .1 .0);
+      fast = within-says 544 5120 (m .yu) (a .0);
+      slow = within-says 34816 327680 (m .yl) (a .1 .0);
+      short = within-says 0 3584 (m .dms) (a .1 .1 .0) .high;
+      long = within-says 0 14336 (m .dml) (a .1 .1 .1 .0) .high;
+      speed = within-says 0 512 (m .ap) (a .1 .1 .1 .1 .0) .high;
+      differences = words-say (m .dq) (g .0);
+      signal1 = float-says 15 (m .sr1) (g .1 .0);
+      signal2 = float-says 15 (m .sr2) (g .1 .1 .0);
+      sign1 = within-says 0 1 (m .pk1) (g .1 .1 .1 .0) .high;
+      sign2 = within-says 0 1 (m .pk2) (g .1 .1 .1 .1 .0) .high;
+      tone = within-says 0 1 (m .td) (g .1 .1 .1 .1 .1 .0) .high;
     }
+
+pub range-says : (s : State) → inRange s ≡ true → InRange s
+unfolding inRange
+range-says s t =
+    let r = every-says _ t in
+    record { memory = memory-says (s .memory) (r .0); cores = within-says 2 4 (s .core) (r .1 .0) }
 
 upto : {greatest n : ℕ} → n ≤ greatest → within 0 greatest n ≡ true
 upto h = within-of (record { low = zero-le; high = h })
 
-pub range-of : (s : State) → InRange s → inRange s ≡ true
-unfolding inRange adaptationInRange signalsInRange
-range-of s i =
+memory-of : (m : Memory) → MemoryInRange m → memoryInRange m ≡ true
+unfolding memoryInRange adaptationInRange signalsInRange
+memory-of m i =
     every-of _ (
       every-of _ (within-of (i .fast), (within-of (i .slow), (upto (i .short), (upto (i .long), (upto (i .speed), tt))))),
       (
         every-of _ (words-of (i .differences), (float-of (i .signal1), (float-of (i .signal2), (upto (i .sign1), (upto (i .sign2), (upto (i .tone), tt)))))),
-        (within-of (i .cores), tt),
+        tt,
       ),
     )
 
-pub reset-in-range : (core : ℕ) → Within 2 4 core → InRange (resetOf core)
-unfolding resetOf
-reset-in-range core w =
+pub range-of : (s : State) → InRange s → inRange s ≡ true
+unfolding inRange
+range-of s i = every-of _ (memory-of (s .memory) (i .memory), (within-of (i .cores), tt))
+
+reset-memory-in-range : MemoryInRange resetMemory
+unfolding resetMemory
+reset-memory-in-range =
     let word14 : FloatWord 14 32 = omega arith in
     let word15 : FloatWord 15 32 = omega arith in
     record {
@@ -96,9 +106,12 @@ reset-in-range core w =
       sign1 = omega arith;
       sign2 = omega arith;
       tone = omega arith;
-      cores = w;
     }
 
-pub reset-words : (core : ℕ) → Words (resetOf core)
+pub reset-in-range : (core : ℕ) → Within 2 4 core → InRange (resetOf core)
 unfolding resetOf
-reset-words core = record { pole1 = omega arith; pole2 = omega arith; zeros = omega arith; six-zeros = refl; six-differences = refl }
+reset-in-range core w = record { memory = reset-memory-in-range; cores = w }
+
+pub reset-words : Words resetMemory
+unfolding resetMemory
+reset-words = record { pole1 = omega arith; pole2 = omega arith; zeros = omega arith; six-zeros = refl; six-differences = refl }

@@ -2,3 +2,4 @@ pub mod Reset
 pub mod Range
 pub mod InRange
 pub mod Words
+pub mod Numbers

@@ -8,6 +8,7 @@ use lib.ListN.{getD}
 use Rattle.words.specs.Every.{every}
 use Rattle.words.specs.Notation.{_>>_}
 use Rattle.words.specs.Within.{within}
+use Rattle.state.specs.declared.memory.Memory.{Memory}
 use Rattle.state.specs.declared.State.{State}
 
 -- an 11-bit word: sign bit, exponent 0 to `most`, mantissa 32 to 63
@@ -27,27 +28,30 @@ floatWords dq =
     ∷ [])
 
 -- rows YU to AP
-unfoldable pub adaptationInRange : State → Bool
-adaptationInRange s =
+unfoldable pub adaptationInRange : Memory → Bool
+adaptationInRange m =
     every
-    (within 544 5120 (s .yu)
-    ∷ within 34816 327680 (s .yl)
-    ∷ within 0 3584 (s .dms)
-    ∷ within 0 14336 (s .dml)
-    ∷ within 0 512 (s .ap)
+    (within 544 5120 (m .yu)
+    ∷ within 34816 327680 (m .yl)
+    ∷ within 0 3584 (m .dms)
+    ∷ within 0 14336 (m .dml)
+    ∷ within 0 512 (m .ap)
     ∷ [])
 
 -- rows DQ1 to TD
-unfoldable pub signalsInRange : State → Bool
-signalsInRange s =
+unfoldable pub signalsInRange : Memory → Bool
+signalsInRange m =
     every
-    (floatWords (s .dq)
-    ∷ isFloatWord 15 (s .sr1)
-    ∷ isFloatWord 15 (s .sr2)
-    ∷ within 0 1 (s .pk1)
-    ∷ within 0 1 (s .pk2)
-    ∷ within 0 1 (s .td)
+    (floatWords (m .dq)
+    ∷ isFloatWord 15 (m .sr1)
+    ∷ isFloatWord 15 (m .sr2)
+    ∷ within 0 1 (m .pk1)
+    ∷ within 0 1 (m .pk2)
+    ∷ within 0 1 (m .td)
     ∷ [])
 
+unfoldable pub memoryInRange : Memory → Bool
+memoryInRange m = every (adaptationInRange m ∷ signalsInRange m ∷ [])
+
 unfoldable pub inRange : State → Bool
-inRange s = every (adaptationInRange s ∷ signalsInRange s ∷ within 2 4 (s .core) ∷ [])
+inRange s = every (memoryInRange (s .memory) ∷ within 2 4 (s .core) ∷ [])

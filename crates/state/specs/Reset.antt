@@ -1,10 +1,11 @@
--- The reset state: the column "optional reset values" of Table 7/G.727, which the rules' table repeats.
+-- The reset state: DELAY's output where reset is invoked, the column "optional reset values" of Table 7/G.727, which the rules' table repeats.
 use mathlib.Core.List.{[], _∷_}
 use Prim.Native.Nat.{ℕ}
+use Rattle.state.specs.declared.memory.Memory.{Memory}
 use Rattle.state.specs.declared.State.{State}
 
-unfoldable pub resetOf : ℕ → State
-resetOf core =
+unfoldable pub resetMemory : Memory
+resetMemory =
     record {
       yu = 544;
       yl = 34816;
@@ -20,5 +21,7 @@ resetOf core =
       pk1 = 0;
       pk2 = 0;
       td = 0;
-      core = core;
     }
+
+unfoldable pub resetOf : ℕ → State
+resetOf core = record { memory = resetMemory; core = core }

@@ -1,9 +1,9 @@
--- `state::is_float_word` meets its contract, test by test.
+-- `state::memory::is_float_word` meets its contract, test by test.
 use mathlib.Core.Path.{refl}
 use Rattle.words.specs.Every.{joined, every}
 use Rattle.state.specs.Range.{isFloatWord}
-use Rattle.state.proofs.is_float_word.Statement.{statement}
-use Rattle.state.proofs.is_float_word.Tie as tie
+use Rattle.state.proofs.memory.is_float_word.Statement.{statement}
+use Rattle.state.proofs.memory.is_float_word.Tie as tie
 
 pub is-float-word-spec : {M : Type 1} → statement M
 unfolding isFloatWord every joined

@@ -1,9 +1,9 @@
--- `state::signals_in_range` meets its contract, test by test.
+-- `state::memory::signals_in_range` meets its contract, test by test.
 use borrow.Author.Needs.{needs}
 use Rattle.words.specs.Every.{joined, every}
 use Rattle.state.specs.Range.{signalsInRange}
-use Rattle.state.proofs.signals_in_range.Statement.{statement}
-use Rattle.state.proofs.signals_in_range.Tie as tie
+use Rattle.state.proofs.memory.signals_in_range.Statement.{statement}
+use Rattle.state.proofs.memory.signals_in_range.Tie as tie
 
 returns : tie.Need-returns
 unfolding signalsInRange every joined

@@ -1,9 +1,9 @@
--- `state::float_words` meets its contract, test by test.
+-- `state::memory::float_words` meets its contract, test by test.
 use borrow.Author.Needs.{needs}
 use Rattle.words.specs.Every.{joined, every}
 use Rattle.state.specs.Range.{floatWords}
-use Rattle.state.proofs.float_words.Statement.{statement}
-use Rattle.state.proofs.float_words.Tie as tie
+use Rattle.state.proofs.memory.float_words.Statement.{statement}
+use Rattle.state.proofs.memory.float_words.Tie as tie
 
 returns : tie.Need-returns
 unfolding floatWords every joined

@@ -1,9 +1,9 @@
--- `state::adaptation_in_range` meets its contract, test by test.
+-- `state::memory::adaptation_in_range` meets its contract, test by test.
 use borrow.Author.Needs.{needs}
 use Rattle.words.specs.Every.{joined, every}
 use Rattle.state.specs.Range.{adaptationInRange}
-use Rattle.state.proofs.adaptation_in_range.Statement.{statement}
-use Rattle.state.proofs.adaptation_in_range.Tie as tie
+use Rattle.state.proofs.memory.adaptation_in_range.Statement.{statement}
+use Rattle.state.proofs.memory.adaptation_in_range.Tie as tie
 
 returns : tie.Need-returns
 unfolding adaptationInRange every joined
