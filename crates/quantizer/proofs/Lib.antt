@@ -6,4 +6,6 @@ pub mod Thresholds
 pub mod Nesting
 pub mod Halves
 pub mod Ranges
+pub mod Coding
+pub mod Differences
 pub mod Allowed

@@ -2,12 +2,7 @@
 -- A difference is the 16-bit word D, two's complement, so D runs through all from -32,768 to 32,767.
 use mathlib.Core.Path.{_≡_}
 use Prim.Native.Nat.{ℕ, _<_}
-use Rattle.logarithm.specs.Logarithm.{LOG, SUBTB}
-use Rattle.quantizer.specs.Decision.{QUAN}
-
--- the codeword of a difference at scale factor Y and a width
-unfoldable pub codeword : ℕ → ℕ → ℕ → ℕ
-codeword width Y D = QUAN width (SUBTB (LOG D .dl) Y) (LOG D .ds)
+use Rattle.quantizer.specs.Adaptive.{codeword}
 
 pub record Allows (width Y I D : ℕ) : Type 0 where
   pub word : D < 65536

@@ -6,4 +6,5 @@ pub mod Threshold
 pub mod Output
 pub mod Multiplier
 pub mod Sync
+pub mod Adaptive
 pub mod Allows
