@@ -1,4 +1,4 @@
--- From a state in range, Y is in range and the estimates are 15-bit words.
+-- From a memory in range, Y is in range and the estimates are 15-bit words.
 use mathlib.Core.Path.{_≡_, ap}
 use Prim.Native.Nat.{_<_}
 use Rattle.words.specs.Within.{Within}
@@ -6,34 +6,34 @@ use Rattle.speed.specs.Speed.{LIMA}
 use Rattle.speed.proofs.Range.{lima-range}
 use Rattle.scale.proofs.Range.{mix-range}
 use Rattle.predictor.proofs.Range.{se-range, sez-range}
-use Rattle.state.specs.declared.State.{State}
-use Rattle.state.specs.InRange.{InRange}
+use Rattle.state.specs.declared.memory.Memory.{Memory}
+use Rattle.state.specs.InRange.{MemoryInRange}
 use Rattle.engine.specs.declared.Estimated.{Estimated}
 use Rattle.engine.specs.Estimate.{Y, predicted, SE, SEZ, estimateOf}
 
-module _ (s : State) where
-  pub y-range : InRange s → Within 544 5120 (Y s)
+module _ (m : Memory) where
+  pub y-range : MemoryInRange m → Within 544 5120 (Y m)
   unfolding Y
-  y-range i = mix-range (LIMA (s .ap)) (s .yu) (s .yl) (lima-range (s .ap)) (i .fast) (i .slow)
+  y-range i = mix-range (LIMA (m .ap)) (m .yu) (m .yl) (lima-range (m .ap)) (i .fast) (i .slow)
 
-  pub se-word : SE s < 32768
+  pub se-word : SE m < 32768
   unfolding SE predicted
   se-word = se-range _ _ _ _ _ _ _ _
 
-  pub sez-word : SEZ s < 32768
+  pub sez-word : SEZ m < 32768
   unfolding SEZ predicted
   sez-word = sez-range _ _ _ _ _ _ _ _
 
   -- the parts of what `estimate` answered
-  module _ {e : Estimated} (is : e ≡ estimateOf s) where
-    pub y-is : e .y ≡ Y s
+  module _ {e : Estimated} (is : e ≡ estimateOf m) where
+    pub y-is : e .y ≡ Y m
     unfolding estimateOf
     y-is = ap (λ (x : Estimated). x .y) is
 
-    pub se-is : e .se ≡ SE s
+    pub se-is : e .se ≡ SE m
     unfolding estimateOf
     se-is = ap (λ (x : Estimated). x .se) is
 
-    pub sez-is : e .sez ≡ SEZ s
+    pub sez-is : e .sez ≡ SEZ m
     unfolding estimateOf
     sez-is = ap (λ (x : Estimated). x .sez) is

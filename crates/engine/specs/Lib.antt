@@ -1,4 +1,4 @@
 pub mod Estimate
-pub mod Difference
+pub mod Adaptation
+pub mod Prediction
 pub mod Advance
-pub mod Groups

@@ -3,7 +3,7 @@ ghost use mathlib.Core.Path.{_≡_};
 ghost use Prim.Native.Nat.{_<_};
 ghost use Rattle.predictor.specs.Reconstruct.{ADDB, FLOATB};
 ghost use Rattle.engine.specs.Estimate.{predicted};
-ghost use Rattle.engine.specs.Groups.{polesOf, zeroOf, zerosOf};
+ghost use Rattle.engine.specs.Prediction.{polesOf, zeroOf, zerosOf};
 use predictor::coefficient::limc;
 use predictor::coefficient::limd;
 use predictor::coefficient::trigb;
@@ -17,22 +17,22 @@ use predictor::reconstruct::addb;
 use predictor::reconstruct::floatb;
 use predictor::reconstruct::xor;
 use predictor::tone::tone;
-use state::State;
+use state::memory::Memory;
 
 pub struct Poles {
-    pub a1: u16,
-    pub a2: u16,
+    pub a1r: u16,
+    pub a2r: u16,
     pub tdp: u16,
 }
 
-pub fn signal_estimate(s: State) -> Estimate
-    ensures { λ r. ⌜ r ≡ predicted s ⌝ }
+pub fn signal_estimate(m: Memory) -> Estimate
+    ensures { λ r. ⌜ r ≡ predicted m ⌝ }
 {
-    let b = s.b;
-    let dq = s.dq;
+    let b = m.b;
+    let dq = m.dq;
     accum(
-        fmult(s.a1, s.sr1),
-        fmult(s.a2, s.sr2),
+        fmult(m.a1, m.sr1),
+        fmult(m.a2, m.sr2),
         fmult(b[0], dq[0]),
         fmult(b[1], dq[1]),
         fmult(b[2], dq[2]),
@@ -51,14 +51,14 @@ pub fn next_signal(dq: u16, se: u16) -> u16
 }
 
 // The second order predictor and the tone that it shows. A2 is limited first, since it limits A1.
-pub fn next_poles(s: State, pk0: u16, sigpk: u16, tr: u16) -> Poles
-    ensures { λ r. ⌜ r ≡ polesOf s pk0 sigpk tr ⌝ }
+pub fn next_poles(m: Memory, pk0: u16, sigpk: u16, tr: u16) -> Poles
+    ensures { λ r. ⌜ r ≡ polesOf m pk0 sigpk tr ⌝ }
 {
-    let a2p = limc(upa2(pk0, s.pk1, s.pk2, s.a1, s.a2, sigpk));
-    let a1p = limd(upa1(pk0, s.pk1, s.a1, sigpk), a2p);
+    let a2p = limc(upa2(pk0, m.pk1, m.pk2, m.a1, m.a2, sigpk));
+    let a1p = limd(upa1(pk0, m.pk1, m.a1, sigpk), a2p);
     Poles {
-        a1: trigb(tr, a1p),
-        a2: trigb(tr, a2p),
+        a1r: trigb(tr, a1p),
+        a2r: trigb(tr, a2p),
         tdp: tone(a2p),
     }
 }

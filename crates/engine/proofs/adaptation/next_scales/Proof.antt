@@ -1,7 +1,7 @@
--- `engine::adaptation::next_scales` meets its contract: what it calls is what the definition says, group by group.
+-- `engine::adaptation::next_scales` meets its contract: what it calls is what the definition says.
 use borrow.Author.Needs.{needs}
 use Rattle.scale.proofs.Range.{filtd-word}
-use Rattle.engine.specs.Groups.{scalesOf}
+use Rattle.engine.specs.Adaptation.{scalesOf}
 use Rattle.engine.proofs.adaptation.next_scales.Statement.{statement}
 use Rattle.engine.proofs.adaptation.next_scales.Tie as tie
 

@@ -1,9 +1,9 @@
--- `engine::adaptation::next_speeds` meets its contract: what it calls is what the definition says, group by group.
+-- `engine::adaptation::next_speeds` meets its contract: what it calls is what the definition says.
 use borrow.Author.Needs.{needs}
 use Prim.Native.Nat.{_≤_}
 use native.Mathlib.Omega.{arith}
 use Rattle.speed.proofs.Range.{filta-range, filtb-range, subtc-range}
-use Rattle.engine.specs.Groups.{speedsOf}
+use Rattle.engine.specs.Adaptation.{speedsOf}
 use Rattle.engine.proofs.adaptation.next_speeds.Statement.{statement}
 use Rattle.engine.proofs.adaptation.next_speeds.Tie as tie
 

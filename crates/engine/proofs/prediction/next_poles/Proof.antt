@@ -1,6 +1,6 @@
--- `engine::prediction::next_poles` meets its contract: what it calls is what the definition says, group by group.
+-- `engine::prediction::next_poles` meets its contract: what it calls is what the definition says.
 use borrow.Author.Needs.{needs}
-use Rattle.engine.specs.Groups.{polesOf}
+use Rattle.engine.specs.Prediction.{polesOf}
 use Rattle.engine.proofs.prediction.next_poles.Statement.{statement}
 use Rattle.engine.proofs.prediction.next_poles.Tie as tie
 

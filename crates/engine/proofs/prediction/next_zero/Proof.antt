@@ -1,6 +1,6 @@
--- `engine::prediction::next_zero` meets its contract: what it calls is what the definition says, group by group.
+-- `engine::prediction::next_zero` meets its contract: what it calls is what the definition says.
 use borrow.Author.Needs.{needs}
-use Rattle.engine.specs.Groups.{zeroOf}
+use Rattle.engine.specs.Prediction.{zeroOf}
 use Rattle.engine.proofs.prediction.next_zero.Statement.{statement}
 use Rattle.engine.proofs.prediction.next_zero.Tie as tie
 

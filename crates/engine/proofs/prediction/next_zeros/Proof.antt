@@ -1,6 +1,6 @@
--- `engine::prediction::next_zeros` meets its contract: what it calls is what the definition says, group by group.
+-- `engine::prediction::next_zeros` meets its contract: what it calls is what the definition says.
 use borrow.Author.Needs.{needs}
-use Rattle.engine.specs.Groups.{zerosOf}
+use Rattle.engine.specs.Prediction.{zerosOf}
 use Rattle.engine.proofs.prediction.next_zeros.Statement.{statement}
 use Rattle.engine.proofs.prediction.next_zeros.Tie as tie
 

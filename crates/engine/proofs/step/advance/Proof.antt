@@ -1,75 +1,59 @@
--- `engine::step::advance` meets its contract, field by field (proofs/Assembly.antt). Its estimate is the state's own, by what it requires.
+-- `engine::step::advance` meets its contract, field by field. Its estimate is the memory's own, by what it requires.
 use borrow.Author.Needs.{needs}
-use Rattle.quantizer.proofs.Halves.{codeword-of-core}
-use Rattle.quantizer.proofs.Ranges.{functf-small}
 use mathlib.Core.List.{[], _∷_}
-use lib.ListN.{getD}
+use Rattle.engine.specs.Estimate.{nth}
 use Rattle.engine.specs.Advance.{advanceOf}
-use Rattle.engine.proofs.Assembly.{dq-is, tr-is, pk0-is, sigpk-is, dq0-is, sr0-is, zeros-are, a1-is, a2-is, tdp-is, td-is, dms-is, dml-is, ap-is, yu-is, yl-is}
-use Rattle.engine.proofs.Estimates.{y-range, se-word, sez-word, y-is, se-is, sez-is}
+use Rattle.engine.proofs.Estimates.{se-word, sez-word, y-is, se-is, sez-is}
 use Rattle.engine.proofs.step.advance.Statement.{statement}
 use Rattle.engine.proofs.step.advance.Tie as tie
 
-quantized-difference-requires : tie.Need-quantized-difference-requires
-quantized-difference-requires c κs =
-    let s = c .args .s in
-    (codeword-of-core (c .pre .2), rw (y-is s (c .pre .1)) (y-range s (c .pre .0)))
-
 addc-requires : tie.Need-addc-requires
 addc-requires c κs =
-    let at = c .before .before in
-    rw (sez-is (at .args .s) (at .pre .1)) (sez-word (at .args .s))
-
-next-speeds-requires : tie.Need-next-speeds-requires
-next-speeds-requires c κs =
-    let at = c .before .before .before .before .before .before .before in
-    (at .pre .0, rw (c .functf .ensures) (functf-small (at .pre .2)))
+    let at = c .before in
+    rw (sez-is (at .args .m) (at .pre .1)) (sez-word (at .args .m))
 
 next-signal-requires : tie.Need-next-signal-requires
 next-signal-requires c κs =
-    let at = c .before .before .before .before .before .before .before .before .before .before .before .before in
-    rw (se-is (at .args .s) (at .pre .1)) (se-word (at .args .s))
+    let at = c .before .before .before .before .before .before .before .before .before in
+    rw (se-is (at .args .m) (at .pre .1)) (se-word (at .args .m))
 
 returns : tie.Need-returns
 unfolding advanceOf
 returns c =
-    let at = c .before .before .before .before .before .before .before .before .before .before .before .before .before .before in
-    let s = at .args .s in
-    let ic = at .args .ic in
-    let is = at .pre .1 in
-    let d = dq-is s ic is (c .before .before .before .before .before .before .before .before .before .before .before .before .before .quantized-difference .ensures) in
-    let t = tr-is s ic is d (c .before .before .before .before .before .before .before .before .before .before .before .before .trans .ensures) in
-    let sign = c .before .before .before .before .before .before .before .before .before .before .before .addc .ensures in
-    let p0 = pk0-is s ic is d sign in
-    let sg = sigpk-is s ic is d sign in
-    let poles = c .before .before .before .before .before .before .before .before .before .before .next-poles .ensures in
-    let tdp = tdp-is s ic is t p0 sg poles in
-    let scales = c .before .before .before .before .before .before .before .before .next-scales .ensures in
-    let wi = c .before .before .before .before .before .before .before .before .before .functw .ensures in
-    let speeds = c .before .before .before .before .before .before .next-speeds .ensures in
-    let fi = c .before .before .before .before .before .before .before .functf .ensures in
+    let zeroed = c .before .before .before in
+    let sped = zeroed .before .before .before in
+    let signed = sped .before .before .before in
+    let at = signed .before .before in
+    let m = at .args .m in
+    let y = y-is m (at .pre .1) in
+    let tr = signed .before .trans .ensures in
+    let sign = rw (sez-is m (at .pre .1)) at (signed .addc .ensures) in
+    let poles = rw (sign, tr) at (sped .before .before .next-poles .ensures) in
+    let scales = rw y at (sped .before .next-scales .ensures) in
+    let speeds = rw (poles, tr, y) at (sped .next-speeds .ensures) in
+    let zeros = rw tr at (zeroed .next-zeros .ensures) in
+    let sr0 = rw (se-is m (at .pre .1)) at (c .before .next-signal .ensures) in
+    let tdr = rw (poles, tr) at (c .trigb .ensures) in
     λ i. record {
-      yu = yu-is s ic is wi scales i;
-      yl = yl-is s ic is wi scales i;
-      dms = dms-is s ic is t fi tdp speeds i;
-      dml = dml-is s ic is t fi tdp speeds i;
-      ap = ap-is s ic is t fi tdp speeds i;
-      a1 = a1-is s ic is t p0 sg poles i;
-      a2 = a2-is s ic is t p0 sg poles i;
-      b = zeros-are s ic is d t (c .before .before .before .next-zeros .ensures) i;
-      dq = dq0-is s ic is d (c .before .before .floata .ensures) i ∷ getD (s .dq) 0 0 ∷ getD (s .dq) 1 0 ∷ getD (s .dq) 2 0 ∷ getD (s .dq) 3 0 ∷ getD (s .dq) 4 0 ∷ [];
-      sr1 = sr0-is s ic is d (c .before .next-signal .ensures) i;
-      sr2 = s .sr1;
-      pk1 = p0 i;
-      pk2 = s .pk1;
-      td = td-is s ic is t tdp (c .trigb .ensures) i;
-      core = s .core;
+      yu = scales i .yup;
+      yl = scales i .ylp;
+      dms = speeds i .dmsp;
+      dml = speeds i .dmlp;
+      ap = speeds i .apr;
+      a1 = poles i .a1r;
+      a2 = poles i .a2r;
+      b = zeros i;
+      dq = c .before .before .floata .ensures i ∷ nth (m .dq) 1 ∷ nth (m .dq) 2 ∷ nth (m .dq) 3 ∷ nth (m .dq) 4 ∷ nth (m .dq) 5 ∷ [];
+      sr1 = sr0 i;
+      sr2 = m .sr1;
+      pk1 = sign i .pk0;
+      pk2 = m .pk1;
+      td = tdr i;
     }
 
 pub advance-spec : {M : Type 1} → statement M
 advance-spec =
     tie.close
-    (tie.spec quantized-difference-requires (search needs) addc-requires (search needs)
-    (search needs) (search needs) (search needs) next-speeds-requires (search needs) (search needs)
-    (search needs) (search needs) (search needs) (search needs) (search needs) next-signal-requires
-    (search needs) returns)
+    (tie.spec (search needs) addc-requires (search needs) (search needs) (search needs)
+    (search needs) (search needs) (search needs) (search needs) (search needs) (search needs)
+    (search needs) next-signal-requires (search needs) returns)
