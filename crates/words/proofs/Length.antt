@@ -6,7 +6,8 @@ use native.Mathlib.Decide.{decLe}
 use native.Mathlib.Nat.{pow-suc}
 use lib.Pow.{pow-mono}
 use borrow.Author.Tests.{le-leb, lt-leb}
-use Rattle.words.specs.Length.{rows, bitLength, Spans}
+use Rattle.words.specs.Length.{rows, bitLength}
+use Rattle.words.specs.Inner.{Spans}
 
 module _ (k m : ℕ) where
   above : 2 ^ k ≤ m → rows (suc k) m ≡ suc k

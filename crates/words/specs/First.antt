@@ -2,11 +2,11 @@
 use mathlib.Core.Bool.{Bool}
 use mathlib.Core.List.{List, [], _∷_}
 use Prim.Native.Nat.{ℕ}
-use Rattle.words.specs.Notation.{pick}
+use Rattle.words.specs.Notation.{_when_∣_}
 
 abbrev pub Row : Type 0
 Row = ℕ × Bool
 
 unfoldable pub first : List Row → ℕ
 first [] = 0
-first ((number, test) ∷ rows) = pick test number (first rows)
+first ((number, test) ∷ rows) = number when test ∣ first rows

@@ -3,3 +3,4 @@ pub mod Length
 pub mod Within
 pub mod Every
 pub mod First
+pub mod Inner

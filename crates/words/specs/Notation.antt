@@ -1,17 +1,22 @@
 -- The notation of G.727, section 6.2, as every definition of this house writes it.
 -- A mask of ones, `& 65535`, is written `% 65536`: the same number for every operand.
 use mathlib.Core.Bool.{Bool, true, false}
-use mathlib.Core.Path.{_≡_}
-use Prim.Native.Nat.{ℕ, _*_, _/_, _^_, max, _≤_}
+use Prim.Native.Nat.{ℕ, _*_, _/_, _^_}
 use lib.Bits.{bitXor}
 
 infixl 60 _<<_
 infixl 60 _>>_
 infixl 60 _**_
--- the Recommendation's braces: the first row where its condition holds, else the second
+infixr 20 _when_∣_
+-- a where t holds, else b
 abbrev pub pick : {A : Type 0} → Bool → A → A → A
 pick true a b = a
 pick false a b = b
+
+-- the Recommendation's braces, row by row: `a when t ∣ b when u ∣ c` is the first row whose condition holds. The last row has
+-- no condition: it is "otherwise", or the case that the rows before it leave
+abbrev pub _when_∣_ : {A : Type 0} → A → Bool → A → A
+a when t ∣ b = pick t a b
 
 -- "n-bit shift left operation (zero fill)"
 abbrev pub _<<_ : ℕ → ℕ → ℕ
@@ -24,8 +29,3 @@ x >> n = x / 2 ^ n
 -- "Logical exclusive or operation"
 abbrev pub _**_ : ℕ → ℕ → ℕ
 x ** y = bitXor x y
-
--- r is the row that t chooses; that it is no greater than the greater row is said too, for whoever adds to it
-pub record Chosen (t : Bool) (a b r : ℕ) : Type 0 where
-  pub is : r ≡ pick t a b
-  pub small : r ≤ max a b

@@ -2,7 +2,8 @@
 // one table (specs/Length.antt). A chain of comparisons searches it.
 ghost use mathlib.Core.Path.{_≡_};
 ghost use Prim.Native.Nat.{_<_, _≤_};
-ghost use Rattle.words.specs.Length.{bitLength, Spans};
+ghost use Rattle.words.specs.Length.{bitLength};
+ghost use Rattle.words.specs.Inner.{Spans};
 
 pub fn bit_length(m: u16) -> u16
     ensures { λ r. ⌜ r ≡ bitLength m ⌝ }

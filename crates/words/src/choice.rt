@@ -1,5 +1,5 @@
 // The Recommendation's braces with two rows, where both rows are at hand.
-ghost use Rattle.words.specs.Notation.{Chosen};
+ghost use Rattle.words.specs.Inner.{Chosen};
 
 pub fn choose(t: bool, a: u16, b: u16) -> u16
     ensures { λ r. ⌜ Chosen t a b r ⌝ }
