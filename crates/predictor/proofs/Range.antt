@@ -9,9 +9,8 @@ use Rattle.words.specs.Notation.{pick}
 use Rattle.words.proofs.Length.{length-le}
 use Rattle.words.proofs.Pick.{by-pick, pick-lt, bit}
 use Rattle.words.specs.Within.{Within}
-use Rattle.predictor.specs.Float.{EXP, MANT, FloatWord}
-use Rattle.predictor.specs.Estimate.{ACCUM}
-use Rattle.predictor.specs.Reconstruct.{DQI, SEI, ADDB, ADDC, FLOATA, FLOATB}
+use Rattle.predictor.specs.Sums.{ACCUM, DQI, SEI, ADDB, ADDC}
+use Rattle.predictor.specs.Float.{EXP, MANT, FLOATA, FLOATB, FloatWord}
 use Rattle.predictor.specs.Coefficient.{LIMC, LIMD, TRIGB, UPA1, UPA2, UPB}
 use Rattle.predictor.specs.Tone.{TONE, TRANS}
 use Rattle.predictor.proofs.Mantissa.{mantissa-range}

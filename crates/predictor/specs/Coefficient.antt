@@ -1,5 +1,5 @@
--- G.727, section 6.2.7: the predictor's coefficients, UPA1, UPA2, LIMC, LIMD, UPB and TRIGB. All are 16-bit two's complement words and are
--- kept modulo 65,536: "implicitly limited" is no licence to clamp.
+-- G.727, section 6.2.7: the predictor's coefficients, LIMC, LIMD, TRIGB, UPA1, UPA2, UPB and XOR. All are 16-bit two's complement words and
+-- are kept modulo 65,536: "implicitly limited" is no licence to clamp. DQ's sign stands at place s, as in Sums.antt.
 use mathlib.Core.Bool.{_&&_}
 use Prim.Native.Nat.{ℕ, _+_, _-_, _^_, _%_}
 use lib.Dec.{eqb, leb}
@@ -74,3 +74,10 @@ UPB s Un Bn DQ =
     let ULBn = UL Bn in
     let UBn = (UGBn + ULBn) % 65536 in
     (Bn + UBn) % 65536
+
+-- "One bit exclusive or of sign of difference signal and sign of delayed difference signal": Un
+unfoldable pub XOR : ℕ → ℕ → ℕ → ℕ
+XOR s DQn DQ =
+    let DQS = DQ >> s in
+    let DQnS = DQn >> 10 in
+    DQS ** DQnS

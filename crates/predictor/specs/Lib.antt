@@ -1,5 +1,5 @@
+pub mod Sums
 pub mod Float
-pub mod Estimate
-pub mod Reconstruct
 pub mod Coefficient
 pub mod Tone
+pub mod Inner

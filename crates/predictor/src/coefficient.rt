@@ -1,8 +1,8 @@
-// The predictor's coefficients: UPA1, UPA2, LIMC, LIMD, UPB and TRIGB (G.727, section 6.2.7). A
+// The predictor's coefficients: LIMC, LIMD, TRIGB, UPA1, UPA2, UPB and XOR (G.727, section 6.2.7). A
 // coefficient wraps at the ends of its 16 bits and is never clamped there.
 ghost use mathlib.Core.Path.{_≡_};
 ghost use Prim.Native.Nat.{_<_};
-ghost use Rattle.predictor.specs.Coefficient.{LIMC, LIMD, TRIGB, UL, UPA1, FA, UGA2, UPA2, UPB};
+ghost use Rattle.predictor.specs.Coefficient.{LIMC, LIMD, TRIGB, UL, UPA1, FA, UGA2, UPA2, UPB, XOR};
 use words::choice::choose;
 use words::choice::choose_wide;
 use words::wrap::minus;
@@ -88,4 +88,10 @@ pub fn upb(un: u16, bn: u16, dq: u16) -> u16
 {
     let ugbn = choose(dq % 16384 == 0, 0, choose(un == 0, 128, 65408));
     plus(bn, plus(ugbn, ul(bn)))
+}
+
+pub fn xor(dqn: u16, dq: u16) -> u16
+    ensures { λ r. ⌜ r ≡ XOR 14 dqn dq ⌝ }
+{
+    (dq >> 14) ^ (dqn >> 10)
 }

@@ -5,7 +5,8 @@ use Prim.Native.Nat.{_≤_}
 use native.Mathlib.Omega.{arith}
 use Rattle.words.proofs.Length.{length-le}
 use Rattle.words.specs.Within.{Within}
-use Rattle.predictor.specs.Float.{EXP, MANT, floatOf}
+use Rattle.predictor.specs.Float.{EXP, MANT}
+use Rattle.predictor.specs.Inner.{floatOf}
 use Rattle.predictor.proofs.Mantissa.{mantissa-range}
 use Rattle.predictor.proofs.float.float_of.Statement.{statement}
 use Rattle.predictor.proofs.float.float_of.Tie as tie

@@ -1,8 +1,8 @@
--- `predictor::estimate::accum` meets its contract: what it calls and chooses is what the definition says.
+-- `predictor::sums::accum` meets its contract: what it calls and chooses is what the definition says.
 use borrow.Author.Needs.{needs}
-use Rattle.predictor.specs.Estimate.{ACCUM}
-use Rattle.predictor.proofs.estimate.accum.Statement.{statement}
-use Rattle.predictor.proofs.estimate.accum.Tie as tie
+use Rattle.predictor.specs.Sums.{ACCUM}
+use Rattle.predictor.proofs.sums.accum.Statement.{statement}
+use Rattle.predictor.proofs.sums.accum.Tie as tie
 
 returns : tie.Need-returns
 unfolding ACCUM

@@ -1,10 +1,10 @@
--- `predictor::reconstruct::floatb` meets its contract: what it calls and chooses is what the definition says.
+-- `predictor::float::floatb` meets its contract: what it calls and chooses is what the definition says.
 use borrow.Author.Needs.{needs}
 use Rattle.words.proofs.Masks.{mask-narrower}
-use Rattle.predictor.specs.Reconstruct.{FLOATB}
-use Rattle.predictor.specs.Float.{floatOf}
-use Rattle.predictor.proofs.reconstruct.floatb.Statement.{statement}
-use Rattle.predictor.proofs.reconstruct.floatb.Tie as tie
+use Rattle.predictor.specs.Float.{FLOATB}
+use Rattle.predictor.specs.Inner.{floatOf}
+use Rattle.predictor.proofs.float.floatb.Statement.{statement}
+use Rattle.predictor.proofs.float.floatb.Tie as tie
 
 returns : tie.Need-returns
 unfolding FLOATB floatOf

@@ -1,13 +1,13 @@
--- `predictor::estimate::product_magnitude` meets its contract, on either side of exponent 26.
+-- `predictor::float::product_magnitude` meets its contract, on either side of exponent 26.
 use borrow.Author.Needs.{needs}
 use mathlib.Core.Path.{_≡_, sym, _∙_}
 use Prim.Native.Nat.{ℕ, _-_, _*_, _%_, _^_, _<_}
 use native.Mathlib.Omega.{arith}
 use lib.Pow.{shr-le, mod-mod-pow}
 use borrow.Author.Tests.{le-leb, lt-leb}
-use Rattle.predictor.specs.Estimate.{WAnMAG}
-use Rattle.predictor.proofs.estimate.product_magnitude.Statement.{statement}
-use Rattle.predictor.proofs.estimate.product_magnitude.Tie as tie
+use Rattle.predictor.specs.Float.{WAnMAG}
+use Rattle.predictor.proofs.float.product_magnitude.Statement.{statement}
+use Rattle.predictor.proofs.float.product_magnitude.Tie as tie
 
 cast-result-2 : tie.Need-cast-result-2
 cast-result-2 c = omega (arith, shr-le (c .before .args .wanmant * 128) (26 - c .before .args .wanexp))

@@ -1,8 +1,8 @@
--- `predictor::reconstruct::addc` meets its contract: what it calls and chooses is what the definition says.
+-- `predictor::sums::addc` meets its contract: what it calls and chooses is what the definition says.
 use borrow.Author.Needs.{needs}
-use Rattle.predictor.specs.Reconstruct.{ADDC}
-use Rattle.predictor.proofs.reconstruct.addc.Statement.{statement}
-use Rattle.predictor.proofs.reconstruct.addc.Tie as tie
+use Rattle.predictor.specs.Sums.{ADDC}
+use Rattle.predictor.proofs.sums.addc.Statement.{statement}
+use Rattle.predictor.proofs.sums.addc.Tie as tie
 
 returns : tie.Need-returns
 unfolding ADDC

@@ -1,16 +1,40 @@
-// What becomes of a quantized difference: ADDB, ADDC, FLOATA, FLOATB and XOR (G.727, section 6.2.7).
-// DQ is a sign bit at place 14 and a magnitude of 14 bits below it.
+// The sums of the predictor: ACCUM, ADDB and ADDC (G.727, section 6.2.7). DQ is a sign bit at place 14 and a
+// magnitude of 14 bits below it.
 ghost use mathlib.Core.Path.{_≡_};
 ghost use Prim.Native.Nat.{_<_};
-ghost use Rattle.predictor.specs.Reconstruct.{DQI, SEI, ADDB, ADDC, FLOATA, FLOATB, XOR};
-use super::float::float_of;
+ghost use Rattle.predictor.specs.Sums.{ACCUM, DQI, SEI, ADDB, ADDC};
 use words::choice::choose;
 use words::wrap::minus;
 use words::wrap::plus;
 
+pub struct Estimate {
+    pub se: u16,
+    pub sez: u16,
+}
+
 pub struct Sign {
     pub pk0: u16,
     pub sigpk: u16,
+}
+
+pub fn accum(
+    wa1: u16,
+    wa2: u16,
+    wb1: u16,
+    wb2: u16,
+    wb3: u16,
+    wb4: u16,
+    wb5: u16,
+    wb6: u16,
+) -> Estimate
+    ensures { λ r. ⌜ r ≡ ACCUM wa1 wa2 wb1 wb2 wb3 wb4 wb5 wb6 ⌝ }
+{
+    let sezi = plus(plus(plus(plus(plus(wb1, wb2), wb3), wb4), wb5), wb6);
+    let sei = plus(plus(sezi, wa2), wa1);
+    Estimate {
+        se: sei >> 1,
+        sez: sezi >> 1,
+    }
 }
 
 // "Convert signed magnitude to two's complement"
@@ -44,24 +68,4 @@ pub fn addc(dq: u16, sez: u16) -> Sign
         pk0: dqsez >> 15,
         sigpk: choose(dqsez == 0, 1, 0),
     }
-}
-
-pub fn floata(dq: u16) -> u16
-    ensures { λ r. ⌜ r ≡ FLOATA 14 dq ⌝ }
-{
-    let f = float_of(dq % 16384);
-    (dq >> 14) * 1024 + f.exp * 64 + f.mant
-}
-
-pub fn floatb(sr: u16) -> u16
-    ensures { λ r. ⌜ r ≡ FLOATB sr ⌝ }
-{
-    let f = float_of(choose(sr >> 15 == 0, sr, minus(0, sr) % 32768));
-    (sr >> 15) * 1024 + f.exp * 64 + f.mant
-}
-
-pub fn xor(dqn: u16, dq: u16) -> u16
-    ensures { λ r. ⌜ r ≡ XOR 14 dqn dq ⌝ }
-{
-    (dq >> 14) ^ (dqn >> 10)
 }

@@ -1,12 +1,12 @@
--- `predictor::estimate::fmult` meets its contract. The product of two mantissas is at most 63 * 63, so it fits.
+-- `predictor::float::fmult` meets its contract. The product of two mantissas is at most 63 * 63, so it fits.
 use borrow.Author.Needs.{needs}
 use Prim.Native.Nat.{_*_, _%_, _≤_}
 use native.Mathlib.Nat.{mul-le-mul}
 use native.Mathlib.Omega.{arith}
-use Rattle.predictor.specs.Estimate.{FMULT}
-use Rattle.predictor.specs.Float.{floatOf}
-use Rattle.predictor.proofs.estimate.fmult.Statement.{statement}
-use Rattle.predictor.proofs.estimate.fmult.Tie as tie
+use Rattle.predictor.specs.Float.{FMULT}
+use Rattle.predictor.specs.Inner.{floatOf}
+use Rattle.predictor.proofs.float.fmult.Statement.{statement}
+use Rattle.predictor.proofs.float.fmult.Tie as tie
 
 product : (c : tie.After-struct-known2) → c .before .before .before .before .args .srn % 64 * c .before .before .float-of .result .mant ≤ 63 * 63
 product c =
