@@ -11,11 +11,11 @@ use Rattle.words.proofs.Pick.{by-pick, pick-le, pick-lt}
 use Rattle.predictor.specs.Coefficient.{FA}
 
 module _ (A1 : ℕ) where
-  abbrev above : ℕ
-  above = pick (leb A1 8191) (A1 * 4) 32764
+  abbrev positive : ℕ
+  positive = pick (leb A1 8191) (A1 * 4) 32764
 
-  abbrev below : ℕ
-  below = pick (leb 57345 A1) (A1 * 4 % 131072) 98308
+  abbrev negative : ℕ
+  negative = pick (leb 57345 A1) (A1 * 4 % 131072) 98308
 
   abbrev fa1 : ℕ → ℕ → ℕ
   fa1 a b = pick (eqb (A1 / 32768) 0) a b
@@ -27,9 +27,9 @@ module _ (A1 : ℕ) where
   pub fa-word : (PKS1 : ℕ) → FA PKS1 A1 < 131072
   unfolding FA
   fa-word PKS1 =
-      let high : above ≤ max (A1 * 4) 32764 = pick-le (leb A1 8191) (omega arith) (omega arith) in
-      let low : below ≤ max (A1 * 4 % 131072) 98308 = pick-le (leb 57345 A1) (omega arith) (omega arith) in
-      pick-lt (eqb PKS1 0) {a = (131072 - fa1 above below) % 131072} (omega arith) (fa1-word high low)
+      let high : positive ≤ max (A1 * 4) 32764 = pick-le (leb A1 8191) (omega arith) (omega arith) in
+      let low : negative ≤ max (A1 * 4 % 131072) 98308 = pick-le (leb 57345 A1) (omega arith) (omega arith) in
+      pick-lt (eqb PKS1 1) {b = (131072 - fa1 positive negative) % 131072} (fa1-word high low) (omega arith)
 
 -- THR1 of TRANS, shifted left in 32 bits, loses nothing
 module _ (YLFRAC YLINT : ℕ) (frac : YLFRAC < 32) (int : YLINT ≤ 15) where

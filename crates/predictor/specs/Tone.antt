@@ -2,11 +2,11 @@
 use mathlib.Core.Bool.{_&&_}
 use Prim.Native.Nat.{ℕ, _+_, _%_}
 use lib.Dec.{eqb, leb, ltb}
-use Rattle.words.specs.Notation.{pick, _<<_, _>>_}
+use Rattle.words.specs.Notation.{_when_∣_, _<<_, _>>_}
 
 -- "Partial band signal detection": TDP
 abbrev pub TONE : ℕ → ℕ
-TONE A2P = pick (leb 32768 A2P && ltb A2P 53760) 1 0
+TONE A2P = 1 when leb 32768 A2P && ltb A2P 53760 ∣ 0
 
 -- "Transition detector": TR. G.726's has other numbers in THR2
 unfoldable pub TRANS : ℕ → ℕ → ℕ → ℕ
@@ -15,6 +15,6 @@ TRANS TD YL DQ =
     let YLINT = YL >> 15 in
     let YLFRAC = (YL >> 10) % 32 in
     let THR1 = (32 + YLFRAC) << YLINT in
-    let THR2 = pick (ltb 8 YLINT) (31 << 9) THR1 in
+    let THR2 = 31 << 9 when ltb 8 YLINT ∣ THR1 in
     let DQTHR = (THR2 + (THR2 >> 1)) >> 1 in
-    pick (ltb DQTHR DQMAG && eqb TD 1) 1 0
+    1 when ltb DQTHR DQMAG && eqb TD 1 ∣ 0

@@ -46,7 +46,12 @@ fn ul(a: u16) -> u16
 pub fn upa1(pk0: u16, pk1: u16, a1: u16, sigpk: u16) -> u16
     ensures { λ r. ⌜ r ≡ UPA1 pk0 pk1 a1 sigpk ⌝ }
 {
-    let uga1 = choose(sigpk == 0, choose(pk0 ^ pk1 == 0, 192, 65344), 0);
+    let pks = pk0 ^ pk1;
+    let uga1 = choose(
+        (pks == 0) & (sigpk == 0),
+        192,
+        choose((pks == 1) & (sigpk == 0), 65344, 0),
+    );
     plus(a1, plus(uga1, ul(a1)))
 }
 
@@ -55,10 +60,12 @@ fn fa(pks1: u16, a1: u16) -> u32
     ensures { λ r. ⌜ r ≡ FA pks1 a1 ⌝ }
 {
     let w = a1 as u32;
-    let above = choose_wide(w <= 8191, w * 4, 32764);
-    let below = choose_wide(57345 <= w, w * 4 % 131072, 98308);
-    let fa1 = choose_wide(w >> 15 == 0, above, below);
-    choose_wide(pks1 == 0, (131072 - fa1) % 131072, fa1)
+    let fa1 = choose_wide(
+        w >> 15 == 0,
+        choose_wide(w <= 8191, w * 4, 32764),
+        choose_wide(57345 <= w, w * 4 % 131072, 98308),
+    );
+    choose_wide(pks1 == 1, fa1, (131072 - fa1) % 131072)
 }
 
 // The gain of 1/128
@@ -67,7 +74,12 @@ fn uga2(uga2b: u32, sigpk: u16) -> u16
     ensures { λ r. ⌜ r ≡ UGA2 uga2b sigpk ⌝ }
 {
     let gain = (uga2b >> 7) as u16;
-    choose(sigpk == 0, choose(uga2b >> 16 == 0, gain, gain + 64512), 0)
+    let uga2s = uga2b >> 16;
+    choose(
+        (uga2s == 0) & (sigpk == 0),
+        gain,
+        choose((uga2s == 1) & (sigpk == 0), gain + 64512, 0),
+    )
 }
 
 pub fn upa2(pk0: u16, pk1: u16, pk2: u16, a1: u16, a2: u16, sigpk: u16) -> u16
@@ -86,7 +98,12 @@ pub fn upa2(pk0: u16, pk1: u16, pk2: u16, a1: u16, a2: u16, sigpk: u16) -> u16
 pub fn upb(un: u16, bn: u16, dq: u16) -> u16
     ensures { λ r. ⌜ r ≡ UPB 14 un bn dq ⌝ }
 {
-    let ugbn = choose(dq % 16384 == 0, 0, choose(un == 0, 128, 65408));
+    let dqmag = dq % 16384;
+    let ugbn = choose(
+        (un == 0) & (dqmag != 0),
+        128,
+        choose((un == 1) & (dqmag != 0), 65408, 0),
+    );
     plus(bn, plus(ugbn, ul(bn)))
 }
 
