@@ -1,16 +1,17 @@
 -- G.727, sections 6.2.2 and 6.2.4: LOG, SUBTB, ADDA and ANTILOG, the way from a difference to its normalized logarithm and back.
 use Prim.Native.Nat.{ℕ, _+_, _-_, _%_}
 use lib.Dec.{eqb}
-use Rattle.words.specs.Notation.{pick, _<<_, _>>_}
+use Rattle.words.specs.Notation.{_when_∣_, _<<_, _>>_}
 use Rattle.words.specs.Length.{bitLength}
 use Rattle.logarithm.specs.declared.Logged.{Logged}
 
 -- "Convert difference signal from the linear to the logarithmic domain": DL, with 4 exponent bits and 7 mantissa bits, and DS.
--- EXP's table, "14, 16384 ≤ DQM; 13, 8192 ≤ DQM ≤ 16383; .. 0, 0 ≤ DQM ≤ 1", is the number of bits of DQM >> 1
+-- EXP's table, "14, 16384 ≤ DQM; 13, 8192 ≤ DQM ≤ 16383; .. 0, 0 ≤ DQM ≤ 1", is the number of bits of DQM >> 1: row k, for k from 1 on,
+-- has DQM from 2 ^ k to 2 ^ (k + 1) - 1, which is where DQM >> 1 has k bits, and the lowest row has 0 and 1, both of which leave 0
 unfoldable pub LOG : ℕ → Logged
 LOG D =
     let DS = D >> 15 in
-    let DQM = pick (eqb DS 0) D ((65536 - D) % 32768) in
+    let DQM = D when eqb DS 0 ∣ (65536 - D) % 32768 in
     let EXP = bitLength (DQM >> 1) in
     let MANT = ((DQM << 7) >> EXP) % 128 in
     record { dl = (EXP << 7) + MANT; ds = DS }
@@ -32,5 +33,5 @@ ANTILOG s DQL DQS =
     let DEX = (DQL >> 7) % 16 in
     let DMN = DQL % 128 in
     let DQT = (1 << 7) + DMN in
-    let DQMAG = pick (eqb DS 0) ((DQT << 7) >> (14 - DEX)) 0 in
+    let DQMAG = (DQT << 7) >> (14 - DEX) when eqb DS 0 ∣ 0 in
     (DQS << s) + DQMAG

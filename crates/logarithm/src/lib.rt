@@ -1,5 +1,5 @@
 // From a level to the normalized logarithm of its difference, and back (G.727, sections 6.2.1, 6.2.2
-// and 6.2.4). G.726 has the same sub-blocks.
+// and 6.2.4). G.726 has the same sub-blocks, but its ANTILOG puts DQ's sign a place higher, at 15.
 ghost use mathlib.Core.Path.{_≡_};
 ghost use Prim.Native.Nat.{_+_, _%_, _<_};
 ghost use Rattle.logarithm.specs.Difference.{SUBTA};

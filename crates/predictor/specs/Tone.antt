@@ -8,7 +8,7 @@ use Rattle.words.specs.Notation.{_when_∣_, _<<_, _>>_}
 abbrev pub TONE : ℕ → ℕ
 TONE A2P = 1 when leb 32768 A2P && ltb A2P 53760 ∣ 0
 
--- "Transition detector": TR. G.726's has other numbers in THR2
+-- "Transition detector": TR. G.726's has the wider DQ in DQMAG, and other numbers in THR2
 unfoldable pub TRANS : ℕ → ℕ → ℕ → ℕ
 TRANS TD YL DQ =
     let DQMAG = DQ % 16384 in
