@@ -7,22 +7,22 @@ use lib.Dec.{T, eqb, leb, eqb→eq, leb→le}
 use Rattle.words.proofs.Tests.{span, below-at}
 
 module _ (f : ℕ → ℕ → Bool) where
-  pub both : ((l i : ℕ) → f (suc l) i ≡ f 1 i) → (n : ℕ) → T (span 0 n (f 0)) → T (span 0 n (f 1))
-      → (LAW k : ℕ) → k < n → T (f LAW k)
-  both one n mu a zero k h = below-at (f 0) n k mu h
-  both one n mu a (suc l) k h = subst T (sym (one l k)) (below-at (f 1) n k a h)
+  pub both : ((i l : ℕ) → f i (suc l) ≡ f i 1) → (n : ℕ) → T (span 0 n (λ i. f i 0)) → T (span 0 n (λ i. f i 1))
+      → (k LAW : ℕ) → k < n → T (f k LAW)
+  both one n mu a k zero h = below-at (λ i. f i 0) n k mu h
+  both one n mu a k (suc l) h = subst T (sym (one k l)) (below-at (λ i. f i 1) n k a h)
 
 module _ (f g : ℕ → ℕ → ℕ) where
   abbrev pub equal : ℕ → ℕ → Bool
-  equal LAW k = eqb (f LAW k) (g LAW k)
+  equal k LAW = eqb (f k LAW) (g k LAW)
 
   abbrev pub ordered : ℕ → ℕ → Bool
-  ordered LAW k = leb (f LAW k) (g LAW k)
+  ordered k LAW = leb (f k LAW) (g k LAW)
 
-  pub agree : ((l i : ℕ) → equal (suc l) i ≡ equal 1 i) → (n : ℕ) → T (span 0 n (equal 0)) → T (span 0 n (equal 1))
-      → (LAW k : ℕ) → k < n → f LAW k ≡ g LAW k
-  agree one n mu a LAW k h = eqb→eq (f LAW k) (g LAW k) (both equal one n mu a LAW k h)
+  pub agree : ((i l : ℕ) → equal i (suc l) ≡ equal i 1) → (n : ℕ) → T (span 0 n (λ i. equal i 0)) → T (span 0 n (λ i. equal i 1))
+      → (k LAW : ℕ) → k < n → f k LAW ≡ g k LAW
+  agree one n mu a k LAW h = eqb→eq (f k LAW) (g k LAW) (both equal one n mu a k LAW h)
 
-  pub bounded : ((l i : ℕ) → ordered (suc l) i ≡ ordered 1 i) → (n : ℕ) → T (span 0 n (ordered 0)) → T (span 0 n (ordered 1))
-      → (LAW k : ℕ) → k < n → f LAW k ≤ g LAW k
-  bounded one n mu a LAW k h = leb→le (f LAW k) (g LAW k) (both ordered one n mu a LAW k h)
+  pub bounded : ((i l : ℕ) → ordered i (suc l) ≡ ordered i 1) → (n : ℕ) → T (span 0 n (λ i. ordered i 0)) → T (span 0 n (λ i. ordered i 1))
+      → (k LAW : ℕ) → k < n → f k LAW ≤ g k LAW
+  bounded one n mu a k LAW h = leb→le (f k LAW) (g k LAW) (both ordered one n mu a k LAW h)

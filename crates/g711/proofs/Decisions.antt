@@ -97,6 +97,6 @@ agrees true n m h l u = held (formula true) (formula-mono true) _ tt m (formula-
 agrees false n m h l u = held (formula false) (formula-mono false) _ tt m (formula-top false m) n (omega arith) l u
 
 -- a magnitude from level n's decision value on, and below the next one where there is a next one, has level n
-pub level-agrees : (LAW n m : ℕ) → n < 128 → getD (decisions (eqb LAW 0)) n 0 ≤ m
+pub level-agrees : (n m LAW : ℕ) → n < 128 → getD (decisions (eqb LAW 0)) n 0 ≤ m
     → (n < 127 → m < getD (decisions (eqb LAW 0)) (suc n) 0) → levelOf (decisions (eqb LAW 0)) m ≡ n
-level-agrees LAW = agrees (eqb LAW 0)
+level-agrees n m LAW = agrees (eqb LAW 0) n m

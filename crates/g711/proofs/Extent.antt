@@ -1,11 +1,11 @@
 -- How far the levels of G.711 reach, where the scale ends, and that code words stay octets.
 use mathlib.Core.Path.{_≡_, refl}
-use mathlib.Core.Bool.{Bool, true, false}
+use mathlib.Core.Bool.{Bool, true, false, _&&_, not}
 use Prim.Native.Nat.{ℕ, zero, suc, _+_, _-_, _*_, _%_, _≤_, _<_}
 use native.Mathlib.Omega.{arith}
 use lib.Bits.{xor-lt}
 use lib.Dec.{eqb, ltb, eqb·suc-zero}
-use Rattle.words.specs.Notation.{pick, _>>_, _**_}
+use Rattle.words.specs.Notation.{pick, _when_∣_, _>>_, _**_}
 use Rattle.g711.specs.G711.{outputs-mu, outputs-A}
 use Rattle.g711.specs.Expand.{SS-mu, SS-A, EXPAND}
 use Rattle.g711.specs.Compress.{COMPRESS}
@@ -33,50 +33,53 @@ halves mu false x y = omega arith
 halves true true x y = omega arith
 halves false true x y = omega arith
 
-pub expand-lt : (LAW S : ℕ) → EXPAND LAW S < 16384
+pub expand-lt : (S LAW : ℕ) → EXPAND S LAW < 16384
 unfolding EXPAND
-expand-lt LAW S = halves (eqb LAW 0) (eqb (pick (eqb LAW 0) (SS-mu S >> 13) (SS-A S >> 12)) 0) (SS-mu S) (SS-A S)
+expand-lt S LAW = halves (eqb LAW 0) (eqb (pick (eqb LAW 0) (SS-mu S >> 13) (SS-A S >> 12)) 0) (SS-mu S) (SS-A S)
 
-pub expand-size : (LAW S : ℕ) → S < 256 → sizeOf (EXPAND LAW S) ≤ greatest LAW
+pub expand-size : (S LAW : ℕ) → S < 256 → sizeOf (EXPAND S LAW) ≤ greatest LAW
 unfolding EXPAND SS-mu SS-A outputs-mu outputs-A
-expand-size = bounded (λ l i. sizeOf (EXPAND l i)) (λ l i. greatest l) (λ l i. simp eqb·suc-zero) 256 tt tt
+expand-size = bounded (λ i l. sizeOf (EXPAND i l)) (λ i l. greatest l) (λ i l. simp eqb·suc-zero) 256 tt tt
 
-pub expand-highest : (LAW : ℕ) → EXPAND LAW (highest LAW) ≡ greatest LAW
+pub expand-highest : (LAW : ℕ) → EXPAND (highest LAW) LAW ≡ greatest LAW
 unfolding EXPAND SS-mu SS-A outputs-mu outputs-A
 expand-highest zero = refl
 expand-highest (suc l) = simp eqb·suc-zero
 
-pub expand-lowest : (LAW : ℕ) → EXPAND LAW (lowest LAW) ≡ 16384 - greatest LAW
+pub expand-lowest : (LAW : ℕ) → EXPAND (lowest LAW) LAW ≡ 16384 - greatest LAW
 unfolding EXPAND SS-mu SS-A outputs-mu outputs-A
 expand-lowest zero = refl
 expand-lowest (suc l) = simp eqb·suc-zero
 
-signs : (mu positive : Bool) (a b c d : ℕ) → c ≤ 127 → d ≤ 127
-    → pick mu (pick positive (255 - a) (127 - b)) (pick positive ((128 + c) ** 85) (d ** 85)) < 256
-signs true true a b c d g h = omega arith
-signs true false a b c d g h = omega arith
-signs false true a b c d g h = xor-lt 8 (128 + c) 85 (omega arith) (omega arith)
-signs false false a b c d g h = xor-lt 8 d 85 (omega arith) (omega arith)
+rows : (p q r : Bool) (a b c d : ℕ) → a ≤ 127 → b ≤ 127
+    → ((128 + a) ** 85 when p ∣ b ** 85 when q ∣ 255 - c when r ∣ 127 - d) < 256
+rows true q r a b c d g h = xor-lt 8 (128 + a) 85 (omega arith) (omega arith)
+rows false true r a b c d g h = xor-lt 8 b 85 (omega arith) (omega arith)
+rows false false true a b c d g h = omega arith
+rows false false false a b c d g h = omega arith
 
-pub compress-lt : (LAW SR : ℕ) → COMPRESS LAW SR < 256
+pub compress-lt : (SR LAW : ℕ) → COMPRESS SR LAW < 256
 unfolding COMPRESS
-compress-lt LAW SR = signs (eqb LAW 0) (eqb (SR >> 15) 0) _ _ _ _ (level-top false _) (level-top false _)
+compress-lt SR LAW =
+    let IS = SR >> 15 in
+    let A = not (eqb LAW 0) in
+    rows (eqb IS 0 && A) (eqb IS 1 && A) (eqb IS 0 && eqb LAW 0) _ _ _ _ (level-top false _) (level-top false _)
 
-pub above-lt : (LAW S : ℕ) → S < 256 → above LAW S < 256
+pub above-lt : (S LAW : ℕ) → S < 256 → above S LAW < 256
 unfolding above above-mu above-T
-above-lt = bounded (λ l i. suc (above l i)) (λ l i. 256) (λ l i. simp eqb·suc-zero) 256 tt tt
+above-lt = bounded (λ i l. suc (above i l)) (λ i l. 256) (λ i l. simp eqb·suc-zero) 256 tt tt
 
-pub below-lt : (LAW S : ℕ) → S < 256 → below LAW S < 256
+pub below-lt : (S LAW : ℕ) → S < 256 → below S LAW < 256
 unfolding below below-mu below-T
-below-lt = bounded (λ l i. suc (below l i)) (λ l i. 256) (λ l i. simp eqb·suc-zero) 256 tt tt
+below-lt = bounded (λ i l. suc (below i l)) (λ i l. 256) (λ i l. simp eqb·suc-zero) 256 tt tt
 
 -- the ends of the scale stay where they are
-pub above-held : (LAW : ℕ) → above LAW (highest LAW) ≡ highest LAW
+pub above-held : (LAW : ℕ) → above (highest LAW) LAW ≡ highest LAW
 unfolding above above-mu above-T
 above-held zero = refl
 above-held (suc l) = simp eqb·suc-zero
 
-pub below-held : (LAW : ℕ) → below LAW (lowest LAW) ≡ lowest LAW
+pub below-held : (LAW : ℕ) → below (lowest LAW) LAW ≡ lowest LAW
 unfolding below below-mu below-T
 below-held zero = refl
 below-held (suc l) = simp eqb·suc-zero

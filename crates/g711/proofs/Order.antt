@@ -18,31 +18,31 @@ abbrev pub rank : ℕ → ℕ
 rank v = (v + 8192) % 16384
 
 abbrev pub rankOf : ℕ → ℕ → ℕ
-rankOf LAW S = rank (EXPAND LAW S)
+rankOf S LAW = rank (EXPAND S LAW)
 
 -- the place of a code word's level among those of its law, from the most negative on, and a code word that is at a place:
 -- A-law has 256 places, and mu-law, whose zeros share one, 255, from 1 on
 abbrev placeOf : ℕ → ℕ → ℕ
-placeOf LAW S =
+placeOf S LAW =
     let T = S ** 85 in
     pick (eqb LAW 0) (pick (ltb S 128) (S + 1) (383 - S)) (pick (ltb T 128) (127 - T) T)
 
 abbrev wordAt : ℕ → ℕ → ℕ
-wordAt LAW k = pick (eqb LAW 0) (pick (leb k 128) (k - 1) (383 - k)) (pick (ltb k 128) (127 - k) k ** 85)
+wordAt k LAW = pick (eqb LAW 0) (pick (leb k 128) (k - 1) (383 - k)) (pick (ltb k 128) (127 - k) k ** 85)
 
 abbrev rankAt : ℕ → ℕ → ℕ
-rankAt LAW k = rankOf LAW (wordAt LAW k)
+rankAt k LAW = rankOf (wordAt k LAW) LAW
 
-placed : (LAW S : ℕ) → S < 256 → rankOf LAW S ≡ rankAt LAW (placeOf LAW S)
+placed : (S LAW : ℕ) → S < 256 → rankOf S LAW ≡ rankAt (placeOf S LAW) LAW
 unfolding EXPAND SS-mu SS-A outputs-mu outputs-A
-placed = agree rankOf (λ l i. rankAt l (placeOf l i)) (λ l i. simp eqb·suc-zero) 256 tt tt
+placed = agree rankOf (λ i l. rankAt (placeOf i l) l) (λ i l. simp eqb·suc-zero) 256 tt tt
 
-place-top : (LAW S : ℕ) → S < 256 → placeOf LAW S ≤ 255
-place-top = bounded placeOf (λ l i. 255) (λ l i. simp eqb·suc-zero) 256 tt tt
+place-top : (S LAW : ℕ) → S < 256 → placeOf S LAW ≤ 255
+place-top = bounded placeOf (λ i l. 255) (λ i l. simp eqb·suc-zero) 256 tt tt
 
-climbs : (LAW k : ℕ) → k < 255 → rankAt LAW k ≤ rankAt LAW (suc k)
+climbs : (k LAW : ℕ) → k < 255 → rankAt k LAW ≤ rankAt (suc k) LAW
 unfolding EXPAND SS-mu SS-A outputs-mu outputs-A
-climbs = bounded rankAt (λ l i. rankAt l (suc i)) (λ l i. simp eqb·suc-zero) 255 tt tt
+climbs = bounded rankAt (λ i l. rankAt (suc i) l) (λ i l. simp eqb·suc-zero) 255 tt tt
 
 module _ (f : ℕ → ℕ) (n : ℕ) (step : (k : ℕ) → k < n → f k ≤ f (suc k)) where
   one-more : (i j : ℕ) → i ≤ suc j → suc j ≤ n → (i ≤ j → f i ≤ f j) → Dec (i ≤ j) → f i ≤ f (suc j)
@@ -57,50 +57,50 @@ module _ (f : ℕ → ℕ) (n : ℕ) (step : (k : ℕ) → k < n → f k ≤ f (
       rw e (le-refl _)
   mono i (suc j) h t = one-more i j h t (λ d. mono i j d (omega arith)) (decLe i j)
 
-module _ (LAW S T : ℕ) (s : S < 256) (t : T < 256) where
-  by-place : rankOf LAW S < rankOf LAW T → Dec (placeOf LAW T ≤ placeOf LAW S) → placeOf LAW S < placeOf LAW T
+module _ (S T LAW : ℕ) (s : S < 256) (t : T < 256) where
+  by-place : rankOf S LAW < rankOf T LAW → Dec (placeOf T LAW ≤ placeOf S LAW) → placeOf S LAW < placeOf T LAW
   by-place h (yes d) =
-      let a : rankAt LAW (placeOf LAW T) ≤ rankAt LAW (placeOf LAW S) =
-      mono (rankAt LAW) 255 (climbs LAW) (placeOf LAW T) (placeOf LAW S) d (place-top LAW S s) in
-      absurd (omega (arith, placed LAW S s, placed LAW T t))
+      let a : rankAt (placeOf T LAW) LAW ≤ rankAt (placeOf S LAW) LAW =
+      mono (λ k. rankAt k LAW) 255 (λ k. climbs k LAW) (placeOf T LAW) (placeOf S LAW) d (place-top S LAW s) in
+      absurd (omega (arith, placed S LAW s, placed T LAW t))
   by-place h (no d) = omega arith
 
-  higher : rankOf LAW S < rankOf LAW T → placeOf LAW S < placeOf LAW T
-  higher h = by-place h (decLe (placeOf LAW T) (placeOf LAW S))
+  higher : rankOf S LAW < rankOf T LAW → placeOf S LAW < placeOf T LAW
+  higher h = by-place h (decLe (placeOf T LAW) (placeOf S LAW))
 
-gap : (LAW S T U : ℕ) → S < 256 → T < 256 → U < 256 → placeOf LAW U ≤ placeOf LAW S + 1
-    → rankOf LAW S < rankOf LAW T → rankOf LAW T < rankOf LAW U → ⊥
-gap LAW S T U s t u p h k = omega (arith, higher LAW S T s t h, higher LAW T U t u k)
+gap : (S T U LAW : ℕ) → S < 256 → T < 256 → U < 256 → placeOf U LAW ≤ placeOf S LAW + 1
+    → rankOf S LAW < rankOf T LAW → rankOf T LAW < rankOf U LAW → ⊥
+gap S T U LAW s t u p h k = omega (arith, higher S T LAW s t h, higher T U LAW t u k)
 
-place-above : (LAW S : ℕ) → S < 256 → placeOf LAW (above LAW S) ≤ placeOf LAW S + 1
+place-above : (S LAW : ℕ) → S < 256 → placeOf (above S LAW) LAW ≤ placeOf S LAW + 1
 unfolding above above-mu above-T
-place-above = bounded (λ l i. placeOf l (above l i)) (λ l i. placeOf l i + 1) (λ l i. simp eqb·suc-zero) 256 tt tt
+place-above = bounded (λ i l. placeOf (above i l) l) (λ i l. placeOf i l + 1) (λ i l. simp eqb·suc-zero) 256 tt tt
 
-place-below : (LAW S : ℕ) → S < 256 → placeOf LAW S ≤ placeOf LAW (below LAW S) + 1
+place-below : (S LAW : ℕ) → S < 256 → placeOf S LAW ≤ placeOf (below S LAW) LAW + 1
 unfolding below below-mu below-T
-place-below = bounded placeOf (λ l i. placeOf l (below l i) + 1) (λ l i. simp eqb·suc-zero) 256 tt tt
+place-below = bounded placeOf (λ i l. placeOf (below i l) l + 1) (λ i l. simp eqb·suc-zero) 256 tt tt
 
-module _ (LAW S T : ℕ) (s : S < 256) (t : T < 256) where
-  pub above-next : rankOf LAW S < rankOf LAW T → rankOf LAW T < rankOf LAW (above LAW S) → ⊥
-  above-next = gap LAW S T (above LAW S) s t (above-lt LAW S s) (place-above LAW S s)
+module _ (S T LAW : ℕ) (s : S < 256) (t : T < 256) where
+  pub above-next : rankOf S LAW < rankOf T LAW → rankOf T LAW < rankOf (above S LAW) LAW → ⊥
+  above-next = gap S T (above S LAW) LAW s t (above-lt S LAW s) (place-above S LAW s)
 
-  pub below-next : rankOf LAW (below LAW S) < rankOf LAW T → rankOf LAW T < rankOf LAW S → ⊥
-  below-next = gap LAW (below LAW S) T S (below-lt LAW S s) t s (place-below LAW S s)
+  pub below-next : rankOf (below S LAW) LAW < rankOf T LAW → rankOf T LAW < rankOf S LAW → ⊥
+  below-next = gap (below S LAW) T S LAW (below-lt S LAW s) t s (place-below S LAW s)
 
 -- but for the ends
 abbrev raised : ℕ → ℕ → ℕ
-raised LAW S = pick (eqb S (highest LAW)) 16384 (rankOf LAW (above LAW S))
+raised S LAW = pick (eqb S (highest LAW)) 16384 (rankOf (above S LAW) LAW)
 
 abbrev lowered : ℕ → ℕ → ℕ
-lowered LAW S = pick (eqb S (lowest LAW)) 0 (suc (rankOf LAW (below LAW S)))
+lowered S LAW = pick (eqb S (lowest LAW)) 0 (suc (rankOf (below S LAW) LAW))
 
-pub above-higher : (LAW S : ℕ) → S < 256 → (S ≡ highest LAW → ⊥) → rankOf LAW S < rankOf LAW (above LAW S)
+pub above-higher : (S LAW : ℕ) → S < 256 → (S ≡ highest LAW → ⊥) → rankOf S LAW < rankOf (above S LAW) LAW
 unfolding EXPAND SS-mu SS-A outputs-mu outputs-A above above-mu above-T
-above-higher LAW S h n =
+above-higher S LAW h n =
     rw (ne-eqb S (highest LAW) n) at
-    (bounded (λ l i. suc (rankOf l i)) raised (λ l i. simp eqb·suc-zero) 256 tt tt LAW S h)
+    (bounded (λ i l. suc (rankOf i l)) raised (λ i l. simp eqb·suc-zero) 256 tt tt S LAW h)
 
-pub below-lower : (LAW S : ℕ) → S < 256 → (S ≡ lowest LAW → ⊥) → rankOf LAW (below LAW S) < rankOf LAW S
+pub below-lower : (S LAW : ℕ) → S < 256 → (S ≡ lowest LAW → ⊥) → rankOf (below S LAW) LAW < rankOf S LAW
 unfolding EXPAND SS-mu SS-A outputs-mu outputs-A below below-mu below-T
-below-lower LAW S h n =
-    rw (ne-eqb S (lowest LAW) n) at (bounded lowered rankOf (λ l i. simp eqb·suc-zero) 256 tt tt LAW S h)
+below-lower S LAW h n =
+    rw (ne-eqb S (lowest LAW) n) at (bounded lowered rankOf (λ i l. simp eqb·suc-zero) 256 tt tt S LAW h)

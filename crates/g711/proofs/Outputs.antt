@@ -24,24 +24,24 @@ abbrev pub outputs : ℕ → List ℕ
 outputs LAW = pick (eqb LAW 0) outputs-mu outputs-A
 
 abbrev outputOf : ℕ → ℕ → ℕ
-outputOf LAW n = pick (eqb LAW 0) (middleOf n - 33) (pick (ltb n 16) (n * 2 + 1) (middleOf n / 2))
+outputOf n LAW = pick (eqb LAW 0) (middleOf n - 33) (pick (ltb n 16) (n * 2 + 1) (middleOf n / 2))
 
-pub output-is : (LAW n : ℕ) → n < 128 → outputOf LAW n ≡ getD (outputs LAW) n 0
+pub output-is : (n LAW : ℕ) → n < 128 → outputOf n LAW ≡ getD (outputs LAW) n 0
 unfolding outputs-mu outputs-A
-output-is = agree outputOf (λ l i. getD (outputs l) i 0) (λ l i. simp eqb·suc-zero) 128 tt tt
+output-is = agree outputOf (λ i l. getD (outputs l) i 0) (λ i l. simp eqb·suc-zero) 128 tt tt
 
-pub output-high : (LAW n : ℕ) → n < 128 → getD (outputs LAW) n 0 ≤ 8031
+pub output-high : (n LAW : ℕ) → n < 128 → getD (outputs LAW) n 0 ≤ 8031
 unfolding outputs-mu outputs-A
-output-high = bounded (λ l i. getD (outputs l) i 0) (λ l i. 8031) (λ l i. simp eqb·suc-zero) 128 tt tt
+output-high = bounded (λ i l. getD (outputs l) i 0) (λ i l. 8031) (λ i l. simp eqb·suc-zero) 128 tt tt
 
 -- EXPAND as the code takes its steps
 abbrev expanded : ℕ → ℕ → ℕ
-expanded LAW S =
+expanded S LAW =
     let T = pick (eqb LAW 0) S (S ** 85) in
     let n = pick (eqb LAW 0) ((255 - S) % 128) (T % 128) in
     let SSQ = pick (eqb LAW 0) (getD outputs-mu n 0) (getD outputs-A n 0 * 2) in
     pick (ltb T 128) ((16384 - SSQ) % 16384) SSQ
 
-pub expand-is : (LAW S : ℕ) → S < 256 → expanded LAW S ≡ EXPAND LAW S
+pub expand-is : (S LAW : ℕ) → S < 256 → expanded S LAW ≡ EXPAND S LAW
 unfolding EXPAND SS-mu SS-A outputs-mu outputs-A
-expand-is = agree expanded EXPAND (λ l i. simp eqb·suc-zero) 256 tt tt
+expand-is = agree expanded EXPAND (λ i l. simp eqb·suc-zero) 256 tt tt

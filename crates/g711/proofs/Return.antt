@@ -14,22 +14,22 @@ abbrev pub extended : ℕ → ℕ
 extended SL = pick (eqb (SL >> 13) 0) SL (49152 + SL)
 
 abbrev pub back : ℕ → ℕ → ℕ
-back LAW S = COMPRESS LAW (extended (EXPAND LAW S))
+back S LAW = COMPRESS (extended (EXPAND S LAW)) LAW
 
 abbrev pub again : ℕ → ℕ → ℕ
-again LAW S = pick (eqb LAW 0 && eqb S 0x7F) 0xFF S
+again S LAW = pick (eqb LAW 0 && eqb S 0x7F) 0xFF S
 
-compress-one : (l SR : ℕ) → COMPRESS (suc l) SR ≡ COMPRESS 1 SR
+compress-one : (SR l : ℕ) → COMPRESS SR (suc l) ≡ COMPRESS SR 1
 unfolding COMPRESS
-compress-one l SR = simp eqb·suc-zero
+compress-one SR l = simp eqb·suc-zero
 
-expand-one : (l S : ℕ) → EXPAND (suc l) S ≡ EXPAND 1 S
+expand-one : (S l : ℕ) → EXPAND S (suc l) ≡ EXPAND S 1
 unfolding EXPAND
-expand-one l S = simp eqb·suc-zero
+expand-one S l = simp eqb·suc-zero
 
-back-one : (l S : ℕ) → equal back again (suc l) S ≡ equal back again 1 S
-back-one l S = simp (compress-one, expand-one, eqb·suc-zero)
+back-one : (S l : ℕ) → equal back again S (suc l) ≡ equal back again S 1
+back-one S l = simp (compress-one, expand-one, eqb·suc-zero)
 
-pub back-again : (LAW S : ℕ) → S < 256 → back LAW S ≡ again LAW S
+pub back-again : (S LAW : ℕ) → S < 256 → back S LAW ≡ again S LAW
 unfolding COMPRESS levelOf reached decisions-mu decisions-A EXPAND SS-mu SS-A outputs-mu outputs-A
 back-again = agree back again back-one 256 tt tt

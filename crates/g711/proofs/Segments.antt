@@ -10,7 +10,8 @@ use lib.Dec.{ltb}
 use lib.Pow.{pow-pos, pow-mono, pow-add, shr-mono}
 use borrow.Author.Tests.{lt-ltb, le-ltb}
 use Rattle.words.specs.Notation.{pick}
-use Rattle.words.specs.Length.{bitLength, rows, Spans}
+use Rattle.words.specs.Length.{bitLength, rows}
+use Rattle.words.specs.Inner.{Spans}
 use Rattle.words.proofs.Length.{length-spans}
 
 less-by : (i j : ℕ) → 2 ^ i < 2 ^ j → Dec (i < j) → i < j

@@ -11,13 +11,13 @@ abbrev nextOf : ℕ → ℕ → ℕ
 nextOf t first = pick (eqb t 255) 255 (pick (leb 128 t) (t + 1) (pick (eqb t 0) first (t - 1)))
 
 abbrev stepped : ℕ → ℕ → ℕ
-stepped LAW S = pick (eqb LAW 0) (nextOf (S ** 127) 129 ** 127) (nextOf (S ** 85) 128 ** 85)
+stepped S LAW = pick (eqb LAW 0) (nextOf (S ** 127) 129 ** 127) (nextOf (S ** 85) 128 ** 85)
 
-pub above-is : (LAW S : ℕ) → S < 256 → stepped LAW S ≡ above LAW S
+pub above-is : (S LAW : ℕ) → S < 256 → stepped S LAW ≡ above S LAW
 unfolding above above-mu above-T
-above-is = agree stepped above (λ l i. simp eqb·suc-zero) 256 tt tt
+above-is = agree stepped above (λ i l. simp eqb·suc-zero) 256 tt tt
 
 -- a level down is a level up on the other side of zero
-pub below-is : (LAW S : ℕ) → S < 256 → above LAW (S ** 128) ** 128 ≡ below LAW S
+pub below-is : (S LAW : ℕ) → S < 256 → above (S ** 128) LAW ** 128 ≡ below S LAW
 unfolding above above-mu above-T below below-mu below-T
-below-is = agree (λ l i. above l (i ** 128) ** 128) below (λ l i. simp eqb·suc-zero) 256 tt tt
+below-is = agree (λ i l. above (i ** 128) l ** 128) below (λ i l. simp eqb·suc-zero) 256 tt tt

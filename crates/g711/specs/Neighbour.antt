@@ -3,28 +3,41 @@
 -- LAW is 0 for mu-law and 1 for A-law.
 use Prim.Native.Nat.{ℕ, _+_, _-_}
 use lib.Dec.{eqb, leb, ltb}
-use Rattle.words.specs.Notation.{pick, _**_}
+use Rattle.words.specs.Notation.{_when_∣_, _**_}
 
--- mu-law: code words fall from 80, the most positive, to FF and rise from 00, the most negative, to 7F
+-- mu-law: from the most negative level upwards code words rise from 00 to 7F, which is zero, and fall from FF, zero too, to 80
 unfoldable pub above-mu : ℕ → ℕ
 above-mu SP =
-    pick (eqb SP 128) 128 (pick (ltb 128 SP) (SP - 1) (pick (eqb SP 127) 254 (SP + 1)))
+    128 when eqb SP 128 ∣
+    SP - 1 when ltb 128 SP ∣
+    254 when eqb SP 127 ∣
+    SP + 1
 
 unfoldable pub below-mu : ℕ → ℕ
 below-mu SP =
-    pick (eqb SP 0) 0 (pick (ltb SP 128) (SP - 1) (pick (eqb SP 255) 126 (SP + 1)))
+    0 when eqb SP 0 ∣
+    SP - 1 when ltb SP 128 ∣
+    126 when eqb SP 255 ∣
+    SP + 1
 
--- A-law with its even bits inverted back: T falls from 127, the most negative, to 0 and rises from 128 to 255, the most positive
+-- A-law, by the code word T with its even bits inverted back: from the most negative level upwards T falls from 127 to 0, the negative level
+-- next to zero, and rises from 128, the positive one, to 255
 unfoldable pub above-T : ℕ → ℕ
 above-T T =
-    pick (eqb T 255) 255 (pick (leb 128 T) (T + 1) (pick (eqb T 0) 128 (T - 1)))
+    255 when eqb T 255 ∣
+    T + 1 when leb 128 T ∣
+    128 when eqb T 0 ∣
+    T - 1
 
 unfoldable pub below-T : ℕ → ℕ
 below-T T =
-    pick (eqb T 127) 127 (pick (ltb T 127) (T + 1) (pick (eqb T 128) 0 (T - 1)))
+    127 when eqb T 127 ∣
+    T + 1 when ltb T 127 ∣
+    0 when eqb T 128 ∣
+    T - 1
 
 unfoldable pub above : ℕ → ℕ → ℕ
-above LAW SP = pick (eqb LAW 0) (above-mu SP) (above-T (SP ** 85) ** 85)
+above SP LAW = above-mu SP when eqb LAW 0 ∣ above-T (SP ** 85) ** 85
 
 unfoldable pub below : ℕ → ℕ → ℕ
-below LAW SP = pick (eqb LAW 0) (below-mu SP) (below-T (SP ** 85) ** 85)
+below SP LAW = below-mu SP when eqb LAW 0 ∣ below-T (SP ** 85) ** 85

@@ -14,8 +14,8 @@ ghost use Rattle.g711.specs.Neighbour.{above, below};
 use words::bits::bit_length;
 use words::choice::choose;
 
-pub fn expand(law: u8, s: u8) -> u16
-    ensures { λ r. ⌜ r ≡ EXPAND law s ⌝ }
+pub fn expand(s: u8, law: u8) -> u16
+    ensures { λ r. ⌜ r ≡ EXPAND s law ⌝ }
 {
     if law == 0 {
         return signed(s < 128, output_mu(((255 - s) % 128) as u16));
@@ -58,8 +58,8 @@ fn middle(n: u16) -> u16
     (n % 16 * 2 + 33) << (n >> 4)
 }
 
-pub fn compress(law: u8, sr: u16) -> u8
-    ensures { λ r. ⌜ r ≡ COMPRESS law sr ⌝ }
+pub fn compress(sr: u16, law: u8) -> u8
+    ensures { λ r. ⌜ r ≡ COMPRESS sr law ⌝ }
 {
     if law == 0 {
         return compress_mu(sr);
@@ -68,7 +68,7 @@ pub fn compress(law: u8, sr: u16) -> u8
 }
 
 fn compress_mu(sr: u16) -> u8
-    ensures { λ r. ⌜ r ≡ COMPRESS 0 sr ⌝ }
+    ensures { λ r. ⌜ r ≡ COMPRESS sr 0 ⌝ }
 {
     if sr >> 15 == 0 {
         return (255 - level_mu(sr)) as u8;
@@ -77,7 +77,7 @@ fn compress_mu(sr: u16) -> u8
 }
 
 fn compress_a(sr: u16) -> u8
-    ensures { λ r. ⌜ r ≡ COMPRESS 1 sr ⌝ }
+    ensures { λ r. ⌜ r ≡ COMPRESS sr 1 ⌝ }
 {
     if sr >> 15 == 0 {
         return ((128 + level_a(sr >> 1)) as u8) ^ 85;
@@ -138,8 +138,8 @@ fn chord(m: u16) -> u16
 
 // Inverted back, a code word is its sign and the number of its level. mu-law's two zeros are one level,
 // so that above the negative one there is level 1.
-pub fn above(law: u8, sp: u8) -> u8
-    ensures { λ r. ⌜ r ≡ above law sp ⌝ }
+pub fn above(sp: u8, law: u8) -> u8
+    ensures { λ r. ⌜ r ≡ above sp law ⌝ }
 {
     if law == 0 {
         return next(sp ^ 127, 129) ^ 127;
@@ -148,10 +148,10 @@ pub fn above(law: u8, sp: u8) -> u8
 }
 
 // A level down is a level up on the other side of zero.
-pub fn below(law: u8, sp: u8) -> u8
-    ensures { λ r. ⌜ r ≡ below law sp ⌝ }
+pub fn below(sp: u8, law: u8) -> u8
+    ensures { λ r. ⌜ r ≡ below sp law ⌝ }
 {
-    above(law, sp ^ 128) ^ 128
+    above(sp ^ 128, law) ^ 128
 }
 
 // The negative levels count down to 0, above which `first` stands; the positive ones count up to 255.

@@ -37,6 +37,11 @@ and-true : (t : Bool) → t ≡ t && true
 and-true true = refl
 and-true false = refl
 
+-- a row is left out where its last test fails, whatever the tests before it
+pub and-false : (t : Bool) → t && false ≡ false
+and-false true = refl
+and-false false = refl
+
 joined-false : (ts : List Bool) → joined false ts ≡ false
 unfolding joined
 joined-false [] = refl

@@ -5,7 +5,7 @@ use Rattle.g711.proofs.below.Statement.{statement}
 use Rattle.g711.proofs.below.Tie as tie
 
 returns : tie.Need-returns
-returns c = rw (c .above .ensures) (below-is (c .before .args .law) _ (c .before .fits .sp .fits))
+returns c = rw (c .above .ensures) (below-is _ (c .before .args .law) (c .before .fits .sp .fits))
 
 pub below-spec : {M : Type 1} → statement M
 below-spec = tie.close (tie.spec (search needs) returns)

@@ -1,4 +1,5 @@
 -- `g711::compress_a` meets its contract, sign by sign: no level is above 127.
+use mathlib.Core.Path.{_≡_}
 use mathlib.Core.Bool.{false}
 use Prim.Native.Nat.{_/_}
 use native.Mathlib.Omega.{arith}
@@ -25,8 +26,10 @@ cast-result-2 c = omega (arith, level-top false (c .before .less-one .result))
 returns-2 : tie.Need-returns-2
 unfolding COMPRESS
 returns-2 c =
+    let negative : c .before .before .before .before .args .sr / 32768 ≡ 1 = omega arith in
     simp (
       ne-eqb _ _ (c .before .before .before .if1 .left),
+      eq-eqb _ _ negative,
       c .level-a2 .ensures,
       c .before .less-one .ensures,
       c .before .before .magnitude .ensures,

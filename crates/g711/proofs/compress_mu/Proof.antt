@@ -3,6 +3,7 @@ use mathlib.Core.Bool.{true}
 use native.Mathlib.Omega.{arith}
 use borrow.Author.Needs.{needs}
 use borrow.Author.Tests.{eq-eqb, ne-eqb}
+use Rattle.words.proofs.Rows.{and-false}
 use Rattle.g711.specs.Compress.{COMPRESS}
 use Rattle.g711.proofs.Decisions.{level-top}
 use Rattle.g711.proofs.compress_mu.Statement.{statement}
@@ -13,14 +14,14 @@ sub-result c = omega (arith, level-top true (c .before .before .args .sr))
 
 returns : tie.Need-returns
 unfolding COMPRESS
-returns c = simp (eq-eqb _ _ (c .before .if1 .taken), c .level-mu .ensures)
+returns c = simp (eq-eqb _ _ (c .before .if1 .taken), and-false, c .level-mu .ensures)
 
 sub-result-2 : tie.Need-sub-result-2
 sub-result-2 c = omega (arith, level-top true (c .before .magnitude .result))
 
 returns-2 : tie.Need-returns-2
 unfolding COMPRESS
-returns-2 c = simp (ne-eqb _ _ (c .before .before .if1 .left), c .level-mu2 .ensures, c .before .magnitude .ensures)
+returns-2 c = simp (ne-eqb _ _ (c .before .before .if1 .left), and-false, c .level-mu2 .ensures, c .before .magnitude .ensures)
 
 pub compress-mu-spec : {M : Type 1} → statement M
 compress-mu-spec =

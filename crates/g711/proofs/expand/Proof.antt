@@ -13,7 +13,7 @@ output-mu-requires : tie.Need-output-mu-requires
 output-mu-requires c κs = search needs
 
 signed-requires : tie.Need-signed-requires
-signed-requires c κs = omega (arith, output-high 0 _ (output-mu-requires (c .before) κs))
+signed-requires c κs = omega (arith, output-high _ 0 (output-mu-requires (c .before) κs))
 
 returns : tie.Need-returns
 returns c =
@@ -21,16 +21,16 @@ returns c =
     let mu : eqb (start .args .law) 0 ≡ true = eq-eqb _ _ (c .before .before .if1 .taken) in
     c .signed .ensures
     ∙ rw (c .before .output-mu .ensures)
-    (rw mu at (expand-is (start .args .law) _ (start .fits .s .fits)))
+    (rw mu at (expand-is _ (start .args .law) (start .fits .s .fits)))
 
 output-a-requires : tie.Need-output-a-requires
 output-a-requires c κs = search needs
 
 mul-signed : tie.Need-mul-signed
-mul-signed c = omega (arith, output-high 1 _ (output-a-requires (c .before) _))
+mul-signed c = omega (arith, output-high _ 1 (output-a-requires (c .before) _))
 
 signed-requires-2 : tie.Need-signed-requires-2
-signed-requires-2 c κs = omega (arith, output-high 1 _ (output-a-requires (c .before) κs))
+signed-requires-2 c κs = omega (arith, output-high _ 1 (output-a-requires (c .before) κs))
 
 returns-2 : tie.Need-returns-2
 returns-2 c =
@@ -38,7 +38,7 @@ returns-2 c =
     let a : eqb (start .args .law) 0 ≡ false = ne-eqb _ _ (c .before .before .if1 .left) in
     c .signed2 .ensures
     ∙ rw (c .before .output-a .ensures)
-    (rw a at (expand-is (start .args .law) _ (start .fits .s .fits)))
+    (rw a at (expand-is _ (start .args .law) (start .fits .s .fits)))
 
 pub expand-spec : {M : Type 1} → statement M
 expand-spec =

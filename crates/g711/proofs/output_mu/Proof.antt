@@ -9,7 +9,7 @@ sub-result : tie.Need-sub-result
 sub-result c = omega (arith, middle-low _ (c .before .pre))
 
 returns : tie.Need-returns
-returns c = rw (c .middle .ensures) (output-is 0 _ (c .before .pre))
+returns c = rw (c .middle .ensures) (output-is _ 0 (c .before .pre))
 
 pub output-mu-spec : {M : Type 1} → statement M
 output-mu-spec = tie.close (tie.spec (search needs) sub-result returns)
