@@ -3,10 +3,10 @@ use mathlib.Core.Path.{_≡_}
 use Prim.Native.Nat.{ℕ, _+_, _*_, _≤_, _<_}
 use native.Mathlib.Omega.{arith}
 use Rattle.words.specs.Within.{Within}
-use Rattle.predictor.specs.Reconstruct.{ADDC, FLOATA}
+use Rattle.predictor.specs.Sums.{ADDC}
 use Rattle.predictor.specs.Coefficient.{LIMC, UPA2}
 use Rattle.predictor.specs.Tone.{TRANS}
-use Rattle.predictor.specs.Float.{FloatWord}
+use Rattle.predictor.specs.Float.{FLOATA, FloatWord}
 use Rattle.predictor.proofs.Range.{addb-range, pk0-range, floata-range, floatb-range, tone-range, trigb-range}
 use Rattle.scale.proofs.Range.{filtd-word, limb-range, filte-range}
 use Rattle.speed.proofs.Range.{filta-range, filtb-range, filtc-range, subtc-range, triga-range}

@@ -3,7 +3,8 @@
 -- are there: 12 (TRANS), 10, 8, 9 and 12 again (the trigger of TD).
 use mathlib.Core.List.{[], _∷_}
 use Prim.Native.Nat.{ℕ}
-use Rattle.predictor.specs.Reconstruct.{ADDB, ADDC, FLOATA, FLOATB}
+use Rattle.predictor.specs.Sums.{ADDB, ADDC}
+use Rattle.predictor.specs.Float.{FLOATA, FLOATB}
 use Rattle.predictor.specs.Coefficient.{TRIGB}
 use Rattle.predictor.specs.Tone.{TRANS}
 use Rattle.state.specs.declared.memory.Memory.{Memory}

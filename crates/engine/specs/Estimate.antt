@@ -5,8 +5,9 @@ use Prim.Native.Nat.{ℕ, _-_}
 use lib.ListN.{getD}
 use Rattle.scale.specs.Scale.{MIX}
 use Rattle.speed.specs.Speed.{LIMA}
-use Rattle.predictor.specs.Estimate.{FMULT, ACCUM}
-use Rattle.predictor.specs.declared.estimate.Estimate.{Estimate}
+use Rattle.predictor.specs.Sums.{ACCUM}
+use Rattle.predictor.specs.Float.{FMULT}
+use Rattle.predictor.specs.declared.sums.Estimate.{Estimate}
 use Rattle.state.specs.declared.memory.Memory.{Memory}
 use Rattle.engine.specs.declared.Estimated.{Estimated}
 

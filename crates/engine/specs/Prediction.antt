@@ -1,8 +1,7 @@
 -- The adaptive predictor's coefficients, one sample on (Figure 10 of G.727), and the tone that they show (Figure 12).
 use mathlib.Core.List.{List, [], _∷_}
 use Prim.Native.Nat.{ℕ}
-use Rattle.predictor.specs.Reconstruct.{XOR}
-use Rattle.predictor.specs.Coefficient.{LIMC, LIMD, TRIGB, UPA1, UPA2, UPB}
+use Rattle.predictor.specs.Coefficient.{LIMC, LIMD, TRIGB, UPA1, UPA2, UPB, XOR}
 use Rattle.predictor.specs.Tone.{TONE}
 use Rattle.state.specs.declared.memory.Memory.{Memory}
 use Rattle.engine.specs.declared.prediction.Poles.{Poles}

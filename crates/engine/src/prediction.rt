@@ -1,7 +1,8 @@
 // The adaptive predictor (Figures 10 and 12 of G.727): the signal estimate, and the next values of the coefficients.
 ghost use mathlib.Core.Path.{_≡_};
 ghost use Prim.Native.Nat.{_<_};
-ghost use Rattle.predictor.specs.Reconstruct.{ADDB, FLOATB};
+ghost use Rattle.predictor.specs.Sums.{ADDB};
+ghost use Rattle.predictor.specs.Float.{FLOATB};
 ghost use Rattle.engine.specs.Estimate.{predicted};
 ghost use Rattle.engine.specs.Prediction.{polesOf, zeroOf, zerosOf};
 use predictor::coefficient::limc;
@@ -10,12 +11,12 @@ use predictor::coefficient::trigb;
 use predictor::coefficient::upa1;
 use predictor::coefficient::upa2;
 use predictor::coefficient::upb;
-use predictor::estimate::Estimate;
-use predictor::estimate::accum;
-use predictor::estimate::fmult;
-use predictor::reconstruct::addb;
-use predictor::reconstruct::floatb;
-use predictor::reconstruct::xor;
+use predictor::sums::Estimate;
+use predictor::sums::accum;
+use predictor::float::fmult;
+use predictor::sums::addb;
+use predictor::float::floatb;
+use predictor::coefficient::xor;
 use predictor::tone::tone;
 use state::memory::Memory;
 
