@@ -37,3 +37,13 @@ module _ (m : Memory) where
     pub sez-is : e .sez ≡ SEZ m
     unfolding estimateOf
     sez-is = ap (λ (x : Estimated). x .sez) is
+
+    -- and their ranges
+    pub y-answered : MemoryInRange m → Within 544 5120 (e .y)
+    y-answered i = rw y-is (y-range i)
+
+    pub se-answered : e .se < 32768
+    se-answered = rw se-is se-word
+
+    pub sez-answered : e .sez < 32768
+    sez-answered = rw sez-is sez-word

@@ -11,12 +11,12 @@ use predictor::coefficient::trigb;
 use predictor::coefficient::upa1;
 use predictor::coefficient::upa2;
 use predictor::coefficient::upb;
+use predictor::coefficient::xor;
+use predictor::float::floatb;
+use predictor::float::fmult;
 use predictor::sums::Estimate;
 use predictor::sums::accum;
-use predictor::float::fmult;
 use predictor::sums::addb;
-use predictor::float::floatb;
-use predictor::coefficient::xor;
 use predictor::tone::tone;
 use state::memory::Memory;
 

@@ -14,8 +14,8 @@ use crate::prediction::next_signal;
 use crate::prediction::next_zeros;
 use crate::prediction::signal_estimate;
 use predictor::coefficient::trigb;
-use predictor::sums::addc;
 use predictor::float::floata;
+use predictor::sums::addc;
 use predictor::tone::trans;
 use state::memory::Memory;
 

@@ -1,23 +1,22 @@
--- SYNC by the order of the two codewords, as the code tests it.
-use mathlib.Core.Path.{_≡_}
-use Prim.Native.Nat.{ℕ, _≤_, _<_}
-use borrow.Author.Tests.{lt-ltb, le-ltb, eq-eqb, ne-eqb}
-use native.Mathlib.Omega.{arith}
-use Rattle.g711.specs.Neighbour.{above, below}
-use Rattle.quantizer.specs.Sync.{IM, ID}
-use Rattle.sample.specs.Decode.{SYNC}
+-- A byte moves by the place of the codeword that it requantizes to, as the code compares it.
+use mathlib.Core.Path.{_≡_, sym, ap}
+use Prim.Native.Nat.{ℕ, _<_}
+use Rattle.g711.specs.Expand.{EXPAND}
+use Rattle.logarithm.proofs.Range.{subta-word}
+use Rattle.quantizer.specs.Codeword.{Width, Codeword}
+use Rattle.quantizer.specs.Sync.{IM}
+use Rattle.quantizer.proofs.Coding.{codeword-range, codeword-place}
+use Rattle.sample.specs.Pcm.{moveOf, SYNC, DX, requantized, SD}
 
-module _ (LAW width I SP DLNX DSX : ℕ) where
-  pub sync-above : ID width DLNX DSX < IM width I → SYNC LAW width I SP DLNX DSX ≡ above LAW SP
-  unfolding SYNC
-  sync-above h = rw (lt-ltb _ _ h)
+module _ (LAW width Y SE SP : ℕ) (w : Width width) where
+  dx-word : DX LAW width Y SE SP < 65536
+  unfolding DX
+  dx-word = subta-word (EXPAND SP LAW) SE
 
-  pub sync-same : ID width DLNX DSX ≡ IM width I → SYNC LAW width I SP DLNX DSX ≡ SP
-  unfolding SYNC
-  sync-same e =
-      let not-less : IM width I ≤ ID width DLNX DSX = omega arith in
-      rw (le-ltb _ _ not-less, eq-eqb _ _ e)
+  pub requantized-codeword : Codeword width (requantized LAW width Y SE SP)
+  unfolding requantized
+  requantized-codeword = codeword-range Y dx-word w
 
-  pub sync-below : IM width I ≤ ID width DLNX DSX → (ID width DLNX DSX ≡ IM width I → ⊥) → SYNC LAW width I SP DLNX DSX ≡ below LAW SP
-  unfolding SYNC
-  sync-below h ne = rw (le-ltb _ _ h, ne-eqb _ _ ne)
+  pub moved-by-places : (I : ℕ) → moveOf (IM width (requantized LAW width Y SE SP)) (IM width I) SP LAW ≡ SD LAW width Y SE I SP
+  unfolding requantized SD SYNC
+  moved-by-places I = ap (λ (place : ℕ). moveOf place (IM width I) SP LAW) (sym (codeword-place Y dx-word w))

@@ -6,20 +6,19 @@ use lib.Pow.{shr-lt, shr-shr}
 use Rattle.words.specs.Notation.{_>>_}
 use Rattle.quantizer.specs.Codeword.{CoreCodeword}
 use Rattle.quantizer.specs.Pair.{Pair}
-use Rattle.state.specs.declared.State.{State}
-use Rattle.sample.specs.Masking.{Ic}
+use Rattle.sample.specs.Core.{Ic}
 
-pub core-codeword : (s : State) {width I : ℕ} → Pair width (s .core) → I < 2 ^ width → CoreCodeword (s .core) (Ic s width I)
+pub core-codeword : {core width I : ℕ} → Pair width core → I < 2 ^ width → CoreCodeword core (Ic core width I)
 unfolding Ic
-core-codeword s {width} {I} p h =
+core-codeword {core} {width} {I} p h =
     let low = p .widths .low in
-    let sum : s .core + (width - s .core) ≡ width = omega arith in
-    let fits : I < 2 ^ (s .core + (width - s .core)) = rw sum h in
-    record { least = p .cores .low; most = p .cores .high; short = shr-lt (s .core) (width - s .core) fits }
+    let sum : core + (width - core) ≡ width = omega arith in
+    let fits : I < 2 ^ (core + (width - core)) = rw sum h in
+    record { least = p .cores .low; most = p .cores .high; short = shr-lt core (width - core) fits }
 
 -- thinning a codeword leaves its core bits
-pub core-of-thinned : (s : State) (v w I : ℕ) → s .core ≤ v → v ≤ w → Ic s v (I >> (w - v)) ≡ Ic s w I
+pub core-of-thinned : (core v w I : ℕ) → core ≤ v → v ≤ w → Ic core v (I >> (w - v)) ≡ Ic core w I
 unfolding Ic
-core-of-thinned s v w I low high =
-    let sum : w - v + (v - s .core) ≡ w - s .core = omega arith in
-    shr-shr I (w - v) (v - s .core) ∙ ap (λ (n : ℕ). I / 2 ^ n) sum
+core-of-thinned core v w I low high =
+    let sum : w - v + (v - core) ≡ w - core = omega arith in
+    shr-shr I (w - v) (v - core) ∙ ap (λ (n : ℕ). I / 2 ^ n) sum

@@ -9,13 +9,14 @@ use Rattle.logarithm.specs.Difference.{SUBTA}
 use Rattle.logarithm.specs.Logarithm.{LOG}
 use Rattle.scale.specs.Scale.{MIX}
 use Rattle.speed.specs.Speed.{LIMA}
-use Rattle.predictor.specs.Float.{EXP, MANT}
-use Rattle.predictor.specs.Estimate.{WAnMAG, FMULT, ACCUM}
+use Rattle.predictor.specs.Sums.{ACCUM}
+use Rattle.predictor.specs.Float.{EXP, MANT, WAnMAG, FMULT}
 use Rattle.quantizer.specs.Table.{find}
 use Rattle.quantizer.specs.Decision.{table11, decisions, QUAN}
-use Rattle.state.specs.Reset.{resetOf}
-use Rattle.engine.specs.Estimate.{Y, WB, predicted, SE}
-use Rattle.sample.specs.Encode.{D, normalOf, I, encodeOf}
+use Rattle.quantizer.specs.Adaptive.{codeword}
+use Rattle.state.specs.Reset.{resetMemory}
+use Rattle.engine.specs.Estimate.{Y, WA1, WA2, WB, predicted, SE}
+use Rattle.sample.specs.Encode.{D, I, encodeOf}
 
 -- a law, a byte and the codeword that is due
 pub record Row : Type 0 where
@@ -34,6 +35,6 @@ twelve =
     mu 0xFF 0b00000 ∷ mu 0x7F 0b00000 ∷ mu 0xFE 0b00001 ∷ mu 0x7E 0b11110 ∷ mu 0xFD 0b00011 ∷ mu 0xFC 0b00101 ∷ mu 0x80 0b01111 ∷ mu 0x00 0b10000 ∷
     a 0xD5 0b00001 ∷ a 0x55 0b11110 ∷ a 0xD4 0b00101 ∷ a 0x2A 0b10000 ∷ []
 
-pub first-bytes : (core : ℕ) → map (λ (r : Row). encodeOf (resetOf core) (r .law) 5 (r .byte) .codeword) twelve ≡ map (λ (r : Row). r .due) twelve
-unfolding D normalOf I encodeOf rows bitLength outputs-mu outputs-A SS-mu SS-A EXPAND SUBTA LOG MIX LIMA EXP MANT WAnMAG FMULT ACCUM find table11 decisions QUAN resetOf Y WB predicted SE
+pub first-bytes : (core : ℕ) → map (λ (r : Row). encodeOf core 5 resetMemory (EXPAND (r .byte) (r .law)) .codeword) twelve ≡ map (λ (r : Row). r .due) twelve
+unfolding D I encodeOf codeword rows bitLength outputs-mu outputs-A SS-mu SS-A EXPAND SUBTA LOG MIX LIMA EXP MANT WAnMAG FMULT ACCUM find table11 decisions QUAN resetMemory Y WA1 WA2 WB predicted SE
 first-bytes core = refl

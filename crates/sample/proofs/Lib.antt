@@ -1,4 +1,3 @@
-pub mod Normals
 pub mod Cores
 pub mod Adjusting
 pub mod Tracks

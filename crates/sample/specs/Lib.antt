@@ -1,3 +1,4 @@
-pub mod Masking
+pub mod Core
 pub mod Encode
 pub mod Decode
+pub mod Pcm

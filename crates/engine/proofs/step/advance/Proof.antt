@@ -3,19 +3,19 @@ use borrow.Author.Needs.{needs}
 use mathlib.Core.List.{[], _∷_}
 use Rattle.engine.specs.Estimate.{nth}
 use Rattle.engine.specs.Advance.{advanceOf}
-use Rattle.engine.proofs.Estimates.{se-word, sez-word, y-is, se-is, sez-is}
+use Rattle.engine.proofs.Estimates.{y-is, se-is, sez-is, se-answered, sez-answered}
 use Rattle.engine.proofs.step.advance.Statement.{statement}
 use Rattle.engine.proofs.step.advance.Tie as tie
 
 addc-requires : tie.Need-addc-requires
 addc-requires c κs =
     let at = c .before in
-    rw (sez-is (at .args .m) (at .pre .1)) (sez-word (at .args .m))
+    sez-answered (at .args .m) (at .pre .1)
 
 next-signal-requires : tie.Need-next-signal-requires
 next-signal-requires c κs =
     let at = c .before .before .before .before .before .before .before .before .before in
-    rw (se-is (at .args .m) (at .pre .1)) (se-word (at .args .m))
+    se-answered (at .args .m) (at .pre .1)
 
 returns : tie.Need-returns
 unfolding advanceOf

@@ -1,7 +1,7 @@
--- `sample::differs` meets its contract: what it calls and tests is what the definition says.
+-- `sample::pcm::differs` meets its contract, test by test.
 use borrow.Author.Tests.{eq-eqb, ne-eqb}
-use Rattle.sample.proofs.differs.Statement.{statement}
-use Rattle.sample.proofs.differs.Tie as tie
+use Rattle.sample.proofs.pcm.differs.Statement.{statement}
+use Rattle.sample.proofs.pcm.differs.Tie as tie
 
 returns : tie.Need-returns
 returns c = simp (eq-eqb _ _ (c .if1 .taken))

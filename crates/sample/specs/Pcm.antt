@@ -1,0 +1,59 @@
+-- The G.711 end of a decoder (Figure 13 of G.727): COMPRESS, and SYNC, which quantizes the byte again, at the received width, as an encoder at the same
+-- estimate would. The memory has no part in it: it goes by the signal, Y and SE. The G.711 end of an encoder is EXPAND.
+use Prim.Native.Nat.{ℕ}
+use lib.Dec.{eqb, ltb}
+use Rattle.words.specs.Notation.{_when_∣_}
+use Rattle.g711.specs.Expand.{EXPAND}
+use Rattle.g711.specs.Compress.{COMPRESS}
+use Rattle.g711.specs.Neighbour.{above, below}
+use Rattle.logarithm.specs.Difference.{SUBTA}
+use Rattle.logarithm.specs.Logarithm.{LOG, SUBTB}
+use Rattle.quantizer.specs.Adaptive.{codeword}
+use Rattle.quantizer.specs.Sync.{IM, ID}
+use Rattle.state.specs.declared.memory.Memory.{Memory}
+use Rattle.sample.specs.declared.level.Decoded.{Decoded}
+use Rattle.sample.specs.declared.pcm.Played.{Played}
+use Rattle.sample.specs.Decode.{decodeOf}
+
+-- SYNC's move, by the places ID and IM: SP+, SP or SP-
+unfoldable pub moveOf : ℕ → ℕ → ℕ → ℕ → ℕ
+moveOf ID IM SP LAW = above SP LAW when ltb ID IM ∣ SP when eqb ID IM ∣ below SP LAW
+
+-- "Re-encode output PCM sample in decoder for synchronous tandem coding": SD
+unfoldable pub SYNC : ℕ → ℕ → ℕ → ℕ → ℕ → ℕ → ℕ
+SYNC width I SP DLNX DSX LAW = moveOf (ID width DLNX DSX) (IM width I) SP LAW
+
+module _ (LAW width Y SE : ℕ) where
+  -- DX of a byte, and the codeword that the byte requantizes to
+  unfoldable pub DX : ℕ → ℕ
+  DX SP = SUBTA (EXPAND SP LAW) SE
+
+  unfoldable pub requantized : ℕ → ℕ
+  requantized SP = codeword width Y (DX SP)
+
+  unfoldable pub SD : ℕ → ℕ → ℕ
+  SD I SP = SYNC width I SP (SUBTB (LOG (DX SP) .dl) Y) (LOG (DX SP) .ds) LAW
+
+module _ (LAW width I : ℕ) (d : Decoded) where
+  unfoldable pub SP : ℕ
+  SP = COMPRESS (d .sr) LAW
+
+  unfoldable pub byte : ℕ
+  byte = SD LAW width (d .y) (d .se) I SP
+
+  -- 1 where the final byte differs from the one that COMPRESS gave
+  unfoldable pub moved : ℕ
+  moved = 0 when eqb byte SP ∣ 1
+
+module _ (LAW core width : ℕ) where
+  unfoldable pub playOf : Memory → ℕ → Played
+  playOf m I =
+      let d = decodeOf core width m I in
+      record { byte = byte LAW width I d; moved = moved LAW width I d; memory = d .memory }
+
+  -- as a step of a run: what is put out, and what is counted
+  abbrev pub byteOf : Memory → ℕ → ℕ
+  byteOf m I = playOf m I .byte
+
+  abbrev pub movedOf : Memory → ℕ → ℕ
+  movedOf m I = playOf m I .moved
