@@ -22,9 +22,9 @@ use Rattle.encode.specs.Encode.{encodedHeader, encodedFrame, encodedCodewords, 
 use Rattle.encode.specs.Inner.{Encodable}
 use Rattle.encode.proofs.Encoding.{codewords-length}
 use Rattle.decode.specs.Decode.{decodedState, decodeState}
-use Rattle.tracking.specs.Stream.{Transfer, encoderAfter, decoderAfter, Unrefused, AllUnrefused, EqualThroughout}
+use Rattle.tracking.specs.Stream.{Transfer, encoderAfter, finally, decoderAfter, Unrefused, AllUnrefused, EqualThroughout}
 use Rattle.tracking.proofs.Runs.{states-track, codewords-short}
-use Rattle.tracking.proofs.Frames.{encodable, written-is, encoder-is, finally, arrives}
+use Rattle.tracking.proofs.Frames.{encodable, written-is, encoder-is, arrives}
 
 -- the frame of a run of samples that encode takes: it is sound, its header is the encoder's, and it reads back as the run's codewords
 module _ (s : State) (LAW w : ℕ) (xs : List ℕ) {room : ℕ} (k : Encodable s (encodedHeader (s .core) w (length xs)) (length xs) room) where

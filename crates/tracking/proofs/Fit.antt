@@ -22,9 +22,9 @@ use Rattle.drop_planes.proofs.Fitness.{drop-of}
 use Rattle.decode.specs.Decode.{decodeReply}
 use Rattle.decode.specs.Inner.{Decodable}
 use Rattle.decode.proofs.Fitness.{decode-of}
-use Rattle.tracking.specs.Stream.{Station, Transfer, encoderAfter, Passed, decoderAfter, Unrefused, AllUnrefused, EqualThroughout, Narrowing, sentHeader, Fit, AllFit}
+use Rattle.tracking.specs.Stream.{Station, Transfer, encoderAfter, Passed, finally, decoderAfter, Unrefused, AllUnrefused, EqualThroughout, Narrowing, sentHeader, Fit, AllFit}
 use Rattle.tracking.proofs.Runs.{run-in-range, run-core}
-use Rattle.tracking.proofs.Frames.{written-is, encoder-is, passed-is, finally, arrives}
+use Rattle.tracking.proofs.Frames.{written-is, encoder-is, passed-is, arrives}
 use Rattle.tracking.proofs.Demand3.{frame-sound, frame-header, transfer-tracks, stream-tracks}
 
 -- no base station refuses a sound frame that comes down to it

@@ -21,7 +21,7 @@ use Rattle.encode.proofs.Fitness.{encode-says}
 use Rattle.drop_planes.specs.Drop.{dropReply, dropOctets, dropOut}
 use Rattle.drop_planes.specs.Inner.{Droppable}
 use Rattle.drop_planes.proofs.Fitness.{drop-says}
-use Rattle.tracking.specs.Stream.{Station, Transfer, written, encoderAfter, passedOn, arrived, Passed, sentHeader}
+use Rattle.tracking.specs.Stream.{Station, Transfer, written, encoderAfter, passedOn, arrived, Passed, finally, sentHeader}
 
 module _ (s : State) (x : Transfer) (fits : encodeReply s (x .law) (x .width) (x .samples) (x .buffer) ≡ 0) where
   pub encodable : Encodable s (sentHeader (s .core) x) (length (x .samples)) (length (x .buffer))
@@ -52,12 +52,7 @@ module _ (frame : List ℕ) (b : Station) (fits : dropReply frame (b .width) (b 
       let n = dueLength (narrowed (b .width) (headerOf frame)) in
       rw (eq-eqb _ _ fits) (take-at (thinned (b .width) frame) (drop n (b .buffer)) n (thinned-length frame (droppable .sound) (droppable .target .high)))
 
--- the width that a frame arrives with
-pub finally : ℕ → List Station → ℕ
-finally x [] = x
-finally x (b ∷ bs) = finally (b .width) bs
-
--- what arrives is the frame, thinned to that width, which is from the core to the frame's own width
+-- what arrives is the frame, thinned to the width that arrives, which is from the core to the frame's own width
 pub record Arrives (frame : List ℕ) (stations : List Station) : Type 0 where
   pub is : arrived frame stations ≡ thinned (finally (headerOf frame .width) stations) frame
   pub width : Within (headerOf frame .core) (headerOf frame .width) (finally (headerOf frame .width) stations)

@@ -51,6 +51,16 @@ abbrev pub Passed : List ℕ → List Station → Type 0
 Passed frame [] = Unit
 Passed frame (b ∷ bs) = (dropReply frame (b .width) (b .buffer) ≡ 0) × Passed (passedOn frame b) bs
 
+-- the width that arrives: the last base station's, or the encoder's where there is none
+unfoldable pub finally : ℕ → List Station → ℕ
+finally width [] = width
+finally width (b ∷ bs) = finally (b .width) bs
+
+-- the same transfer, but that the encoder is asked for width v and is lent another buffer
+abbrev pub atWidth : ℕ → List ℕ → Transfer → Transfer
+atWidth v buffer x =
+    record { law = x .law; width = v; samples = x .samples; buffer = buffer; stations = x .stations; law′ = x .law′; buffer′ = x .buffer′ }
+
 -- the decoder's next state, from its state t, where the encoder's is s
 unfoldable pub decoderAfter : State → State → Transfer → State
 decoderAfter s t x = decodeState t (x .law′) (arrived (written s x) (x .stations)) (x .buffer′)
