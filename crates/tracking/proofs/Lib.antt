@@ -5,3 +5,4 @@ pub mod Narrower
 pub mod Buffers
 pub mod Observer
 pub mod Fit
+pub mod Witness
