@@ -1,6 +1,6 @@
--- The loop that encodes all samples: the state so far is in range and of the same core, the run of the rest is the whole run, and the
--- codewords so far stand in the buffer.
-use mathlib.Core.Path.{_≡_, refl, _∙_}
+-- The loop that encodes all levels: the memory so far is in range, the run of the rest is the whole run, and the codewords so far stand in the
+-- buffer.
+use mathlib.Core.Path.{_≡_, _∙_}
 use mathlib.Core.List.{List}
 use Prim.Native.Nat.{ℕ, _+_, _≤_, _<_}
 use lib.ListN.{length, getD, set, take, drop}
@@ -10,61 +10,57 @@ use Rattle.lists.proofs.Filled.{Filled, filled-none, filled-more, filled-all}
 use Rattle.lists.proofs.Runs.{outs-length}
 use Rattle.lists.proofs.Running.{Running, running-none, running-more, running-done, Putting, putting-none, putting-at, putting-more}
 use Rattle.quantizer.specs.Pair.{Pair}
-use Rattle.state.specs.declared.State.{State}
-use Rattle.state.specs.InRange.{InRange}
-use Rattle.sample.specs.declared.Encoded.{Encoded}
+use Rattle.state.specs.declared.memory.Memory.{Memory}
+use Rattle.state.specs.InRange.{MemoryInRange}
+use Rattle.sample.specs.declared.level.Encoded.{Encoded}
 use Rattle.sample.specs.Encode.{encodeOf, encoderNext, codewordOf}
-use Rattle.sample.proofs.Tracks.{encode-in-range, encode-core}
-use Rattle.encode.specs.Encode.{encodedState, encodedCodewords}
+use Rattle.sample.proofs.Tracks.{encode-in-range}
+use Rattle.encode.specs.Levels.{encodedMemory, encodedCodewords}
 use Rattle.encode.specs.Inner.{EncodesAll}
 
-module _ (s : State) (LAW width : ℕ) (samples before : List ℕ) where
-  pub record Encoding (i : ℕ) (t : State) (out : List ℕ) : Type 0 where
-    pub range : InRange t
-    pub core : t .core ≡ s .core
-    pub run : Running (encoderNext LAW width) s samples i t
-    pub put : Putting (encoderNext LAW width) s samples (codewordOf LAW width) i t
-    pub filled : Filled before (encodedCodewords s LAW width samples) (length samples) i out
+module _ (core width : ℕ) (m : Memory) (levels before : List ℕ) where
+  pub record Encoding (i : ℕ) (t : Memory) (out : List ℕ) : Type 0 where
+    pub range : MemoryInRange t
+    pub run : Running (encoderNext core width) m levels i t
+    pub put : Putting (encoderNext core width) m levels (codewordOf core width) i t
+    pub filled : Filled before (encodedCodewords core width m levels) (length levels) i out
 
-  pub encoding-none : InRange s → length samples ≤ length before → Encoding 0 s before
+  pub encoding-none : MemoryInRange m → length levels ≤ length before → Encoding 0 m before
   unfolding encodedCodewords
   encoding-none range room =
       record {
         range = range;
-        core = refl;
-        run = running-none (encoderNext LAW width) s samples;
-        put = putting-none (encoderNext LAW width) s samples (codewordOf LAW width);
-        filled = filled-none before (outs (encoderNext LAW width) (codewordOf LAW width) s samples) (length samples) (outs-length (encoderNext LAW width) (codewordOf LAW width) s samples) room;
+        run = running-none (encoderNext core width) m levels;
+        put = putting-none (encoderNext core width) m levels (codewordOf core width);
+        filled = filled-none before (outs (encoderNext core width) (codewordOf core width) m levels) (length levels) (outs-length (encoderNext core width) (codewordOf core width) m levels) room;
       }
 
-  pub encoding-more : {i : ℕ} {t : State} {out : List ℕ} {e : Encoded} → Encoding i t out → i < length samples → Pair width (s .core)
-      → e ≡ encodeOf t LAW width (getD samples i 0) → Encoding (i + 1) (e .state) (set out i (e .codeword))
+  pub encoding-more : {i : ℕ} {t : Memory} {out : List ℕ} {e : Encoded} → Encoding i t out → i < length levels → Pair width core
+      → e ≡ encodeOf core width t (getD levels i 0) → Encoding (i + 1) (e .memory) (set out i (e .codeword))
   unfolding encodedCodewords
   encoding-more {i} {t} {out} {e} c more pair is =
       rw is
       (record {
-        range = encode-in-range t (c .range) LAW width (rw (c .core) pair) (getD samples i 0);
-        core = encode-core t LAW width (getD samples i 0) ∙ c .core;
-        run = running-more (encoderNext LAW width) s samples 0 (c .run) more;
-        put = putting-more (encoderNext LAW width) s samples (codewordOf LAW width) 0 0 (c .put) more;
-        filled = filled-more before (outs (encoderNext LAW width) (codewordOf LAW width) s samples) (length samples) 0 (c .filled) more (putting-at (encoderNext LAW width) s samples (codewordOf LAW width) 0 0 (c .put) more);
+        range = encode-in-range t pair (c .range) (getD levels i 0);
+        run = running-more (encoderNext core width) m levels 0 (c .run) more;
+        put = putting-more (encoderNext core width) m levels (codewordOf core width) 0 0 (c .put) more;
+        filled = filled-more before (outs (encoderNext core width) (codewordOf core width) m levels) (length levels) 0 (c .filled) more (putting-at (encoderNext core width) m levels (codewordOf core width) 0 0 (c .put) more);
       })
 
-  pub encoding-done : {i : ℕ} {t : State} {out : List ℕ} → Encoding i t out → length samples ≤ i → EncodesAll s LAW width samples before out t
-  unfolding encodedState
+  pub encoding-done : {i : ℕ} {t : Memory} {out : List ℕ} → Encoding i t out → length levels ≤ i → EncodesAll core width m levels before out t
+  unfolding encodedMemory
   encoding-done c all =
       record {
-        state = running-done (encoderNext LAW width) s samples (c .run) all;
-        out = filled-all before (encodedCodewords s LAW width samples) (length samples) (c .filled) all;
+        memory = running-done (encoderNext core width) m levels (c .run) all;
+        out = filled-all before (encodedCodewords core width m levels) (length levels) (c .filled) all;
       }
 
--- the codewords that were encoded are the first of the buffer that they were put into
-module _ (s : State) (LAW width : ℕ) (samples : List ℕ) where
-  pub codewords-length : length (encodedCodewords s LAW width samples) ≡ length samples
+-- the codewords that were encoded, of n levels, are the first n of the buffer that they were put into
+module _ (core width : ℕ) (m : Memory) (levels : List ℕ) {n : ℕ} (sized : length levels ≡ n) where
+  pub codewords-length : length (encodedCodewords core width m levels) ≡ n
   unfolding encodedCodewords
-  codewords-length = outs-length (encoderNext LAW width) (codewordOf LAW width) s samples
+  codewords-length = outs-length (encoderNext core width) (codewordOf core width) m levels ∙ sized
 
-  pub codewords-taken : {before after : List ℕ} {r : State} → EncodesAll s LAW width samples before after r
-      → take (length samples) after ≡ encodedCodewords s LAW width samples
+  pub codewords-taken : {before after : List ℕ} {r : Memory} → EncodesAll core width m levels before after r → take n after ≡ encodedCodewords core width m levels
   codewords-taken {before} c =
-      rw (c .out) (take-at (encodedCodewords s LAW width samples) (drop (length samples) before) (length samples) codewords-length)
+      rw (c .out) (take-at (encodedCodewords core width m levels) (drop (length levels) before) n codewords-length)

@@ -10,7 +10,8 @@ use Rattle.state.specs.declared.State.{State}
 use Rattle.state.proofs.Ranges.{range-says, range-of}
 use Rattle.frame.specs.Header.{edition}
 use Rattle.frame.proofs.Sounds.{Counted, count-says, count-of}
-use Rattle.encode.specs.Encode.{encodedHeader, encodeNumber}
+use Rattle.encode.specs.Levels.{encodedHeader}
+use Rattle.encode.specs.Encode.{encodeNumber}
 use Rattle.encode.specs.Inner.{Encodable}
 
 module _ (s : State) (LAW width n room : ℕ) where

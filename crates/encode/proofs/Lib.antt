@@ -1,3 +1,4 @@
 pub mod Fitness
+pub mod Expanding
 pub mod Encoding
 pub mod Answers

@@ -3,10 +3,11 @@ ghost use mathlib.Core.Path.{_≡_};
 ghost use Prim.Native.Nat.{_*_, _/_, _≤_};
 ghost use lib.ListN.{length};
 ghost use Rattle.quantizer.specs.Pair.{Pair};
-ghost use Rattle.state.specs.InRange.{InRange};
+ghost use Rattle.state.specs.InRange.{MemoryInRange};
 ghost use Rattle.frame.specs.Header.{edition, group, mostGroups};
 ghost use Rattle.replies.specs.Reply.{numberOf};
-ghost use Rattle.encode.specs.Encode.{encodedHeader, encodeNumber, Encodes};
+ghost use Rattle.encode.specs.Levels.{encodedHeader};
+ghost use Rattle.encode.specs.Encode.{levelsOf, encodeNumber, Encodes};
 ghost use Rattle.encode.specs.Inner.{Encodable, EncodesAll, EncodesFrame};
 use frame::header::EDITION;
 use frame::header::GROUP;
@@ -19,9 +20,10 @@ use quantizer::pair::is_pair;
 use replies::Reply;
 use replies::is_done;
 use replies::is_law;
-use sample::encode_sample;
+use sample::pcm::encode_byte;
 use state::State;
 use state::in_range;
+use state::memory::Memory;
 
 pub struct EncodeAnswer {
     pub reply: Reply,
@@ -85,30 +87,41 @@ fn encoded_header(core: u8, width: u8, n: usize) -> Header
 
 fn encode_into(s: State, law: u8, h: Header, samples: &[u8], out: &mut [u8]) -> State
     requires { ⌜ Encodable s h (length (now samples)) (length (now out)) ⌝ }
-    ensures { λ r. ⌜ EncodesFrame s law h (now (samples .entry)) (now (out .entry)) (now (out .exit)) r ⌝ }
+    ensures { λ r. ⌜ EncodesFrame s h (levelsOf law (now (samples .entry))) (now (out .entry)) (now (out .exit)) r ⌝ }
 {
     let mut codewords = blank();
-    let next = encode_all(s, law, h.width, samples, &mut codewords);
+    let from = s.memory;
+    let memory = encode_all(from, s.core, law, h.width, samples, &mut codewords);
     let n = samples.len();
     write_frame(&codewords[..n], h, out);
-    next
+    State {
+        memory,
+        core: s.core,
+    }
 }
 
 // The codewords of all samples, one to an octet
-fn encode_all(s: State, law: u8, width: u8, samples: &[u8], codewords: &mut [u8]) -> State
-    requires { ⌜ InRange s × Pair width (s .core) × (length (now samples) ≤ length (now codewords)) ⌝ }
-    ensures { λ r. ⌜ EncodesAll s law width (now (samples .entry)) (now (codewords .entry)) (now (codewords .exit)) r ⌝ }
+fn encode_all(
+    from: Memory,
+    core: u8,
+    law: u8,
+    width: u8,
+    samples: &[u8],
+    codewords: &mut [u8],
+) -> Memory
+    requires { ⌜ MemoryInRange from × Pair width core × (length (now samples) ≤ length (now codewords)) ⌝ }
+    ensures { λ r. ⌜ EncodesAll core width from (levelsOf law (now (samples .entry))) (now (codewords .entry)) (now (codewords .exit)) r ⌝ }
 {
-    let mut state = s;
+    let mut memory = from;
     let mut i = 0;
     while i < samples.len() {
-        let e = encode_sample(state, law, width, samples[i]);
+        let e = encode_byte(memory, core, law, width, samples[i]);
         codewords[i] = e.codeword;
-        let next = e.state;
-        state = next;
+        let next = e.memory;
+        memory = next;
         i += 1;
     }
-    state
+    memory
 }
 
 fn blank() -> [u8; MOST_SAMPLES]

@@ -1,9 +1,9 @@
--- What is dropped from the front of a list's first part, or of a list that was mapped.
+-- What is dropped from the front of a list's first part, or of a list that was mapped; and an entry of the latter.
 use mathlib.Core.Path.{_≡_, refl}
 use mathlib.Core.List.{List, [], _∷_, map}
-use Prim.Native.Nat.{ℕ, zero, suc, _+_}
-use native.Mathlib.Nat.{zero-add, suc-add}
-use lib.ListN.{take, drop}
+use Prim.Native.Nat.{ℕ, zero, suc, _+_, _<_}
+use native.Mathlib.Nat.{zero-add, suc-add, le-of-suc-le-suc, not-suc-le-zero}
+use lib.ListN.{length, getD, take, drop}
 use lib.Seq.{take-nil}
 
 module _ {A : Type 0} where
@@ -16,3 +16,8 @@ module _ {A : Type 0} where
   drop-map f zero xs = refl
   drop-map f (suc n) [] = refl
   drop-map f (suc n) (x ∷ xs) = drop-map f n xs
+
+  pub getD-map : {B : Type 0} (f : A → B) (xs : List A) (i : ℕ) (d : A) (e : B) → i < length xs → getD (map f xs) i e ≡ f (getD xs i d)
+  getD-map f [] i d e h = absurd (not-suc-le-zero h)
+  getD-map f (x ∷ xs) zero d e h = refl
+  getD-map f (x ∷ xs) (suc i) d e h = getD-map f xs i d e (le-of-suc-le-suc h)

@@ -6,9 +6,11 @@ use lib.ListN.{length}
 use denote.Ref.{now}
 use Rattle.frame.specs.Header.{mostGroups}
 use Rattle.replies.proofs.Answers.{refusal, success, is-refusal, is-success}
-use Rattle.encode.specs.Encode.{encodedHeader, encodeReply, encodedFrame, encodeOctets, encodeState, encodeOut}
+use Rattle.encode.specs.Levels.{encodedHeader, encodedFrame}
+use Rattle.encode.specs.Encode.{encodeReply, encodeOctets, encodeState, encodeOut}
 use Rattle.encode.specs.Inner.{Encodable}
 use Rattle.encode.proofs.Fitness.{encode-says}
+use Rattle.encode.proofs.Expanding.{levels-length}
 use Rattle.encode.proofs.encode.Statement.{statement}
 use Rattle.encode.proofs.encode.Tie as tie
 
@@ -54,7 +56,7 @@ returns-2 c =
       number = at .before .before .encode-reply .ensures;
       octets = c .due-length .ensures ∙ rw h (success _ _ _ n);
       state = coded .state ∙ rw h (success _ _ _ n);
-      out = coded .out ∙ rw h (success _ _ _ n);
+      out = coded .out ∙ rw (h, levels-length (at .before .before .before .before .before .args .law) (now (at .before .before .before .before .before .args .samples))) (success _ _ _ n);
     }
 
 pub encode-spec : {M : Type 1} → statement M

@@ -10,7 +10,8 @@ use Rattle.state.specs.Range.{inRange}
 use Rattle.frame.specs.Header.{edition, mostGroups, dueLength, isCount}
 use Rattle.frame.proofs.Sounds.{count-says}
 use Rattle.replies.specs.Reply.{isLaw}
-use Rattle.encode.specs.Encode.{encodedHeader, encodeNumber}
+use Rattle.encode.specs.Levels.{encodedHeader}
+use Rattle.encode.specs.Encode.{encodeNumber}
 use Rattle.encode.proofs.encode_reply.Statement.{statement}
 use Rattle.encode.proofs.encode_reply.Tie as tie
 
