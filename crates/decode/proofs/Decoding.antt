@@ -1,6 +1,6 @@
--- The loop that decodes a run of codewords: the state so far is in range and of the same core, the run of the rest is the whole run, the bytes
--- so far stand in the buffer, and the moved samples so far are counted.
-use mathlib.Core.Path.{_≡_, refl, _∙_}
+-- The loop that decodes a run of codewords: the memory so far is in range, the run of the rest is the whole run, the bytes so far stand in the
+-- buffer, and the moved samples so far are counted.
+use mathlib.Core.Path.{_≡_, refl}
 use mathlib.Core.List.{List}
 use Prim.Native.Nat.{ℕ, _+_, _^_, _≤_, _<_}
 use native.Mathlib.Omega.{arith}
@@ -12,62 +12,70 @@ use Rattle.lists.proofs.Filled.{Filled, filled-none, filled-more, filled-all}
 use Rattle.lists.proofs.Runs.{outs-length}
 use Rattle.lists.proofs.Running.{Running, running-none, running-more, running-done, Putting, putting-none, putting-at, putting-more, Summing, summing-none, summing-more, summing-done}
 use Rattle.quantizer.specs.Pair.{Pair}
+use Rattle.state.specs.declared.memory.Memory.{Memory}
 use Rattle.state.specs.declared.State.{State}
-use Rattle.state.specs.InRange.{InRange}
-use Rattle.sample.specs.declared.Decoded.{Decoded}
-use Rattle.sample.specs.Decode.{SP, SD, moved, decodeOf, decoderNext, byteOf, movedOf}
-use Rattle.sample.proofs.Tracks.{decode-in-range, decode-core}
-use Rattle.decode.specs.Decode.{decodedState, decodedBytes, decodedMoved}
+use Rattle.state.specs.InRange.{MemoryInRange}
+use Rattle.sample.specs.declared.pcm.Played.{Played}
+use Rattle.sample.specs.Decode.{decodeOf, decoderNext}
+use Rattle.sample.specs.Pcm.{SP, byte, moved, playOf, byteOf, movedOf}
+use Rattle.sample.proofs.Tracks.{decode-in-range}
+use Rattle.decode.specs.Codewords.{decodedMemory, decodedState}
+use Rattle.decode.specs.Decode.{decodedBytes, decodedMoved}
 use Rattle.decode.specs.Inner.{DecodesAll}
 
-pub moved-bit : (s : State) (LAW width I : ℕ) → decodeOf s LAW width I .moved ≤ 1
-unfolding decodeOf moved
-moved-bit s LAW width I = pick-le (eqb (SD s LAW width I) (SP s LAW width I)) {a = 0} {b = 1} {n = 1} (omega arith) (omega arith)
+pub moved-bit : (LAW core width : ℕ) (m : Memory) (I : ℕ) → playOf LAW core width m I .moved ≤ 1
+unfolding playOf moved
+moved-bit LAW core width m I =
+    let d = decodeOf core width m I in
+    pick-le (eqb (byte LAW width I d) (SP LAW width I d)) {a = 0} {b = 1} {n = 1} (omega arith) (omega arith)
 
-module _ (s : State) (LAW width : ℕ) (cws before : List ℕ) where
-  pub record Decoding (k : ℕ) (t : State) (sum : ℕ) (out : List ℕ) : Type 0 where
-    pub range : InRange t
-    pub core : t .core ≡ s .core
+module _ (LAW core width : ℕ) (m : Memory) (cws before : List ℕ) where
+  pub record Decoding (k : ℕ) (t : Memory) (sum : ℕ) (out : List ℕ) : Type 0 where
+    pub range : MemoryInRange t
     pub few : sum ≤ k
-    pub run : Running (decoderNext LAW width) s cws k t
-    pub put : Putting (decoderNext LAW width) s cws (byteOf LAW width) k t
-    pub count : Summing (decoderNext LAW width) s cws (movedOf LAW width) k t sum
-    pub filled : Filled before (decodedBytes s LAW width cws) (length cws) k out
+    pub run : Running (decoderNext core width) m cws k t
+    pub put : Putting (decoderNext core width) m cws (byteOf LAW core width) k t
+    pub count : Summing (decoderNext core width) m cws (movedOf LAW core width) k t sum
+    pub filled : Filled before (decodedBytes LAW core width m cws) (length cws) k out
 
-  pub decoding-none : InRange s → length cws ≤ length before → Decoding 0 s 0 before
+  pub decoding-none : MemoryInRange m → length cws ≤ length before → Decoding 0 m 0 before
   unfolding decodedBytes
   decoding-none range room =
       record {
         range = range;
-        core = refl;
         few = omega arith;
-        run = running-none (decoderNext LAW width) s cws;
-        put = putting-none (decoderNext LAW width) s cws (byteOf LAW width);
-        count = summing-none (decoderNext LAW width) s cws (movedOf LAW width);
-        filled = filled-none before (outs (decoderNext LAW width) (byteOf LAW width) s cws) (length cws) (outs-length (decoderNext LAW width) (byteOf LAW width) s cws) room;
+        run = running-none (decoderNext core width) m cws;
+        put = putting-none (decoderNext core width) m cws (byteOf LAW core width);
+        count = summing-none (decoderNext core width) m cws (movedOf LAW core width);
+        filled = filled-none before (outs (decoderNext core width) (byteOf LAW core width) m cws) (length cws) (outs-length (decoderNext core width) (byteOf LAW core width) m cws) room;
       }
 
-  pub decoding-more : {k : ℕ} {t : State} {sum : ℕ} {out : List ℕ} {d : Decoded} → Decoding k t sum out → k < length cws → Pair width (s .core)
-      → getD cws k 0 < 2 ^ width → d ≡ decodeOf t LAW width (getD cws k 0) → Decoding (k + 1) (d .state) (sum + d .moved) (set out k (d .byte))
+  -- the end plays what the step has decoded
+  moves-on : (t : Memory) (I : ℕ) → playOf LAW core width t I .memory ≡ decoderNext core width t I
+  unfolding playOf
+  moves-on t I = refl
+
+  pub decoding-more : {k : ℕ} {t : Memory} {sum : ℕ} {out : List ℕ} {p : Played} → Decoding k t sum out → k < length cws → Pair width core
+      → getD cws k 0 < 2 ^ width → p ≡ playOf LAW core width t (getD cws k 0) → Decoding (k + 1) (p .memory) (sum + p .moved) (set out k (p .byte))
   unfolding decodedBytes
-  decoding-more {k} {t} {sum} {out} {d} p more pair short is =
-      rw is
+  decoding-more {k} {t} {sum} {out} {p} c more pair short is =
+      rw (is, moves-on t (getD cws k 0))
       (record {
-        range = decode-in-range t (p .range) LAW width (rw (p .core) pair) (getD cws k 0) short;
-        core = decode-core t LAW width (getD cws k 0) ∙ p .core;
-        few = omega (arith, p .few, moved-bit t LAW width (getD cws k 0));
-        run = running-more (decoderNext LAW width) s cws 0 (p .run) more;
-        put = putting-more (decoderNext LAW width) s cws (byteOf LAW width) 0 0 (p .put) more;
-        count = summing-more (decoderNext LAW width) s cws (movedOf LAW width) 0 (p .count) more;
-        filled = filled-more before (outs (decoderNext LAW width) (byteOf LAW width) s cws) (length cws) 0 (p .filled) more (putting-at (decoderNext LAW width) s cws (byteOf LAW width) 0 0 (p .put) more);
+        range = decode-in-range t pair (c .range) (getD cws k 0) short;
+        few = omega (arith, c .few, moved-bit LAW core width t (getD cws k 0));
+        run = running-more (decoderNext core width) m cws 0 (c .run) more;
+        put = putting-more (decoderNext core width) m cws (byteOf LAW core width) 0 0 (c .put) more;
+        count = summing-more (decoderNext core width) m cws (movedOf LAW core width) 0 (c .count) more;
+        filled = filled-more before (outs (decoderNext core width) (byteOf LAW core width) m cws) (length cws) 0 (c .filled) more (putting-at (decoderNext core width) m cws (byteOf LAW core width) 0 0 (c .put) more);
       })
 
-  pub decoding-done : {k : ℕ} {t : State} {sum : ℕ} {out : List ℕ} → Decoding k t sum out → length cws ≤ k
-      → DecodesAll s LAW width cws before out (record { moved = sum; state = t })
-  unfolding decodedState decodedMoved
+module _ (LAW : ℕ) (s : State) (width : ℕ) (cws before : List ℕ) where
+  pub decoding-done : {k : ℕ} {t : Memory} {sum : ℕ} {out : List ℕ} → Decoding LAW (s .core) width (s .memory) cws before k t sum out → length cws ≤ k
+      → DecodesAll LAW s width cws before out (record { moved = sum; state = record { memory = t; core = s .core } })
+  unfolding decodedState decodedMemory decodedMoved
   decoding-done p all =
       record {
-        state = running-done (decoderNext LAW width) s cws (p .run) all;
-        moved = summing-done (decoderNext LAW width) s cws (movedOf LAW width) (p .count) all;
-        out = filled-all before (decodedBytes s LAW width cws) (length cws) (p .filled) all;
+        state = rw (running-done (decoderNext (s .core) width) (s .memory) cws (p .run) all);
+        moved = summing-done (decoderNext (s .core) width) (s .memory) cws (movedOf LAW (s .core) width) (p .count) all;
+        out = filled-all before (decodedBytes LAW (s .core) width (s .memory) cws) (length cws) (p .filled) all;
       }

@@ -1,5 +1,5 @@
--- The call `decode(state, law, frame, out)`: its rows, then the bytes that a run of the sample's step over the received codewords gives, the
--- state that the run ends in, and how many bytes SYNC moved.
+-- The call `decode(state, law, frame, out)`: its rows, then the bytes that the G.711 end makes of the received codewords, how many of them SYNC
+-- moved, and the state that decoding the codewords ends in, in which the law has no part (Codewords.antt).
 use mathlib.Core.Bool.{not}
 use mathlib.Core.List.{List, [], _∷_, _++_}
 use mathlib.Core.Path.{_≡_}
@@ -8,16 +8,19 @@ use lib.Dec.{eqb, ltb}
 use lib.ListN.{length, drop}
 use Rattle.words.specs.First.{Row, first}
 use Rattle.words.specs.Notation.{pick}
-use Rattle.lists.specs.Run.{last, outs, total}
+use Rattle.lists.specs.Run.{outs, total}
+use Rattle.state.specs.declared.memory.Memory.{Memory}
 use Rattle.state.specs.declared.State.{State}
 use Rattle.state.specs.Range.{inRange}
-use Rattle.sample.specs.Decode.{decoderNext, byteOf, movedOf}
+use Rattle.sample.specs.Decode.{decoderNext}
+use Rattle.sample.specs.Pcm.{byteOf, movedOf}
 use Rattle.frame.specs.declared.header.Header.{Header}
 use Rattle.frame.specs.Header.{headerOf, sampleCount}
 use Rattle.frame.specs.Read.{received}
 use Rattle.frame.specs.Rows.{frameRows}
 use Rattle.replies.specs.Reply.{numberOf, isLaw}
 use Rattle.decode.specs.declared.DecodeAnswer.{DecodeAnswer}
+use Rattle.decode.specs.Codewords.{decodedState}
 
 -- the rows behind the frame's own, for a length of out; and all of them, for a frame of n octets with the header h: 4, 9, the frame's 5, 1,
 -- 2 and 6, then 7 and 3
@@ -29,16 +32,13 @@ decodeRows s h room =
 unfoldable pub decodeNumber : State → ℕ → Header → ℕ → ℕ → ℕ
 decodeNumber s LAW h n room = first ((4, not (inRange s)) ∷ (9, not (isLaw LAW)) ∷ (frameRows h n ++ decodeRows s h room))
 
--- a run of the decoder over codewords of `width` bits
-module _ (s : State) (LAW width : ℕ) (codewords : List ℕ) where
-  unfoldable pub decodedState : State
-  decodedState = last (decoderNext LAW width) s codewords
-
+-- what a G.711 end hears of codewords of `width` bits
+module _ (LAW core width : ℕ) (m : Memory) (codewords : List ℕ) where
   unfoldable pub decodedBytes : List ℕ
-  decodedBytes = outs (decoderNext LAW width) (byteOf LAW width) s codewords
+  decodedBytes = outs (decoderNext core width) (byteOf LAW core width) m codewords
 
   unfoldable pub decodedMoved : ℕ
-  decodedMoved = total (decoderNext LAW width) (movedOf LAW width) s codewords
+  decodedMoved = total (decoderNext core width) (movedOf LAW core width) m codewords
 
 module _ (s : State) (LAW : ℕ) (frame before : List ℕ) where
   -- the number of the reply that is due for what is lent
@@ -49,13 +49,13 @@ module _ (s : State) (LAW : ℕ) (frame before : List ℕ) where
   decodeOctets = pick (eqb decodeReply 0) (sampleCount (headerOf frame)) 0
 
   unfoldable pub decodeMoved : ℕ
-  decodeMoved = pick (eqb decodeReply 0) (decodedMoved s LAW (headerOf frame .width) (received frame)) 0
+  decodeMoved = pick (eqb decodeReply 0) (decodedMoved LAW (s .core) (headerOf frame .width) (s .memory) (received frame)) 0
 
   unfoldable pub decodeState : State
-  decodeState = pick (eqb decodeReply 0) (decodedState s LAW (headerOf frame .width) (received frame)) s
+  decodeState = pick (eqb decodeReply 0) (decodedState s (headerOf frame .width) (received frame)) s
 
   unfoldable pub decodeOut : List ℕ
-  decodeOut = pick (eqb decodeReply 0) (decodedBytes s LAW (headerOf frame .width) (received frame) ++ drop (sampleCount (headerOf frame)) before) before
+  decodeOut = pick (eqb decodeReply 0) (decodedBytes LAW (s .core) (headerOf frame .width) (s .memory) (received frame) ++ drop (sampleCount (headerOf frame)) before) before
 
   pub record Decodes (after : List ℕ) (r : DecodeAnswer) : Type 0 where
     pub number : numberOf (r .reply) ≡ decodeReply

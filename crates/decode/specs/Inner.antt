@@ -9,7 +9,8 @@ use Rattle.frame.specs.declared.header.Header.{Header}
 use Rattle.frame.specs.Header.{sampleCount}
 use Rattle.frame.specs.Sound.{Sound}
 use Rattle.decode.specs.declared.DecodedFrame.{DecodedFrame}
-use Rattle.decode.specs.Decode.{decodedState, decodedBytes, decodedMoved}
+use Rattle.decode.specs.Codewords.{decodedState}
+use Rattle.decode.specs.Decode.{decodedBytes, decodedMoved}
 
 -- what decode's 0 says of a frame of n octets with the header h, beside a law of 0 or 1
 pub record Decodable (s : State) (h : Header) (n room : ℕ) : Type 0 where
@@ -19,7 +20,7 @@ pub record Decodable (s : State) (h : Header) (n room : ℕ) : Type 0 where
   pub space : sampleCount h ≤ room
 
 -- a run over codewords of `width` bits, and its bytes in front of what was in the buffer
-pub record DecodesAll (s : State) (LAW width : ℕ) (codewords before after : List ℕ) (r : DecodedFrame) : Type 0 where
-  pub state : r .state ≡ decodedState s LAW width codewords
-  pub moved : r .moved ≡ decodedMoved s LAW width codewords
-  pub out : after ≡ decodedBytes s LAW width codewords ++ drop (length codewords) before
+pub record DecodesAll (LAW : ℕ) (s : State) (width : ℕ) (codewords before after : List ℕ) (r : DecodedFrame) : Type 0 where
+  pub state : r .state ≡ decodedState s width codewords
+  pub moved : r .moved ≡ decodedMoved LAW (s .core) width (s .memory) codewords
+  pub out : after ≡ decodedBytes LAW (s .core) width (s .memory) codewords ++ drop (length codewords) before

@@ -1,2 +1,3 @@
+pub mod Codewords
 pub mod Decode
 pub mod Inner

@@ -18,7 +18,7 @@ use frame::planes::codeword_at;
 use replies::Reply;
 use replies::is_done;
 use replies::is_law;
-use sample::decode_sample;
+use sample::pcm::decode_byte;
 use state::State;
 use state::in_range;
 
@@ -84,20 +84,30 @@ fn decode_reply(s: State, law: u8, h: Header, length: usize, room: usize) -> Rep
 // Each sample's byte, from the frame's planes, and what the state and the moved count come to
 fn decode_into(s: State, law: u8, h: Header, planes: &[u8], out: &mut [u8]) -> DecodedFrame
     requires { ⌜ InRange s × SoundHeader h × (h .core ≡ s .core) × (h .width * h .groups ≤ length (now planes)) × (sampleCount h ≤ length (now out)) ⌝ }
-    ensures { λ r. ⌜ DecodesAll s law (h .width) (codewords (h .width) (h .groups) (now (planes .entry))) (now (out .entry)) (now (out .exit)) r ⌝ }
+    ensures { λ r. ⌜ DecodesAll law s (h .width) (codewords (h .width) (h .groups) (now (planes .entry))) (now (out .entry)) (now (out .exit)) r ⌝ }
 {
     let n = sample_count(h);
     let g = h.groups as usize;
-    let mut state = s;
+    let mut memory = s.memory;
     let mut moved = 0;
     let mut k = 0;
     while k < n {
-        let d = decode_sample(state, law, h.width, codeword_at(planes, h.width, g, k));
-        out[k] = d.byte;
-        moved += d.moved as usize;
-        let next = d.state;
-        state = next;
+        let p = decode_byte(
+            memory,
+            s.core,
+            law,
+            h.width,
+            codeword_at(planes, h.width, g, k),
+        );
+        out[k] = p.byte;
+        moved += p.moved as usize;
+        let next = p.memory;
+        memory = next;
         k += 1;
     }
+    let state = State {
+        memory,
+        core: s.core,
+    };
     DecodedFrame { moved, state }
 }

@@ -15,47 +15,47 @@ use Rattle.decode.proofs.decode_into.Statement.{statement}
 use Rattle.decode.proofs.decode_into.Tie as tie
 
 abbrev Inv-loop : tie.InvT-loop
-Inv-loop law h planes out₀ n g state₀ moved₀ k₀ out state moved k = Decoding state₀ law (h .width) (codewords (h .width) (h .groups) planes) out₀ k state moved out
+Inv-loop s law h planes out₀ n g memory₀ moved₀ k₀ out memory moved k = Decoding law (s .core) (h .width) (s .memory) (codewords (h .width) (h .groups) planes) out₀ k memory moved out
 
 abbrev μ-loop : tie.MeasureT-loop
-μ-loop law h planes out₀ n g state₀ moved₀ k₀ out state moved k = n - k
+μ-loop s law h planes out₀ n g memory₀ moved₀ k₀ out memory moved k = n - k
 
 -- the header's core is the state's, so its width makes a pair with it
 pair : (c : tie.Start Inv-loop μ-loop) → Pair (c .args .h .width) (c .args .s .core)
 pair c = rw (← c .pre .2) (c .pre .1 .pair)
 
-more : (c : tie.In-loop Inv-loop μ-loop) → c .before .loop .k < sampleCount (c .before .before .before .before .before .before .args .h)
-more c = rw (← c .before .before .before .sample-count .ensures) (c .loop-test .taken)
+more : (c : tie.In-loop Inv-loop μ-loop) → c .before .loop .k < sampleCount (c .before .before .before .before .before .before .before .args .h)
+more c = rw (← c .before .before .before .before .sample-count .ensures) (c .loop-test .taken)
 
 -- as a place among the codewords
 within : (c : tie.In-loop Inv-loop μ-loop)
-    → c .before .loop .k < length (codewords (c .before .before .before .before .before .before .args .h .width) (c .before .before .before .before .before .before .args .h .groups) (now (c .before .before .before .before .before .before .args .planes)))
+    → c .before .loop .k < length (codewords (c .before .before .before .before .before .before .before .args .h .width) (c .before .before .before .before .before .before .before .args .h .groups) (now (c .before .before .before .before .before .before .before .args .planes)))
 within c = rw (read-length _ _ _) (more c)
 
 codeword-is : (c : tie.After-codeword-at Inv-loop μ-loop)
-    → c .codeword-at .result ≡ getD (codewords (c .before .before .before .before .before .before .before .args .h .width) (c .before .before .before .before .before .before .before .args .h .groups) (now (c .before .before .before .before .before .before .before .args .planes))) (c .before .before .loop .k) 0
+    → c .codeword-at .result ≡ getD (codewords (c .before .before .before .before .before .before .before .before .args .h .width) (c .before .before .before .before .before .before .before .before .args .h .groups) (now (c .before .before .before .before .before .before .before .before .args .planes))) (c .before .before .loop .k) 0
 codeword-is c = c .codeword-at .ensures ∙ sym (read-at _ _ _ _ (more (c .before)))
 
-moved-few : (c : tie.After-struct-known2 Inv-loop μ-loop) → c .before .decode-sample .result .moved ≤ 1
-moved-few c = rw (c .before .decode-sample .ensures) (moved-bit _ _ _ _)
+moved-few : (c : tie.After-struct-known2 Inv-loop μ-loop) → c .before .decode-byte .result .moved ≤ 1
+moved-few c = rw (c .before .decode-byte .ensures) (moved-bit _ _ _ _ _)
 
 loop-holds : tie.Need-loop-holds Inv-loop μ-loop
 loop-holds c =
-    let at = c .before .before .before .before in
-    decoding-none _ _ _ _ _ (at .pre .0) (rw (read-length (at .args .h .width) (at .args .h .groups) (now (at .args .planes))) (at .pre .4))
+    let at = c .before .before .before .before .before in
+    decoding-none _ _ _ _ _ _ (at .pre .0 .memory) (rw (read-length (at .args .h .width) (at .args .h .groups) (now (at .args .planes))) (at .pre .4))
 
 codeword-at-requires : tie.Need-codeword-at-requires Inv-loop μ-loop
 codeword-at-requires c κs =
-    let at = c .before .before .before .before .before .before in
+    let at = c .before .before .before .before .before .before .before in
     (omega (arith, at .pre .1 .pair .widths .high), omega (arith, more c), at .pre .3)
 
-decode-sample-requires : tie.Need-decode-sample-requires Inv-loop μ-loop
-decode-sample-requires c κs =
+decode-byte-requires : tie.Need-decode-byte-requires Inv-loop μ-loop
+decode-byte-requires c κs =
     let inv = c .before .before .loop .inv in
-    let at = c .before .before .before .before .before .before .before in
+    let at = c .before .before .before .before .before .before .before .before in
     let width = pair-width (pair at) in
     let short = read-short (at .args .h .width) (at .args .h .groups) (now (at .args .planes)) (c .before .before .loop .k) (more (c .before)) in
-    (inv .range, rw (inv .core) (pair at), rw (codeword-is c) (record { least = width .least; most = width .most; short = short }))
+    (inv .range, pair at, rw (codeword-is c) (record { least = width .least; most = width .most; short = short }))
 
 slice-write-out : tie.Need-slice-write-out Inv-loop μ-loop
 slice-write-out c =
@@ -68,7 +68,7 @@ cast-moved c = omega (arith, moved-few c)
 add-moved : tie.Need-add-moved Inv-loop μ-loop
 unfolding mostGroups
 add-moved c =
-    let at = c .before .before .before .before .before .before .before .before .before in
+    let at = c .before .before .before .before .before .before .before .before .before .before in
     omega (arith, moved-few c, c .before .before .before .before .loop .inv .few, more (c .before .before .before), at .pre .1 .count .high)
 
 add-k : tie.Need-add-k Inv-loop μ-loop
@@ -79,18 +79,18 @@ loop-less c = omega arith
 
 loop-again : tie.Need-loop-again Inv-loop μ-loop
 loop-again c =
-    let at = c .before .before .before .before .before .before .before .before .before .before in
+    let at = c .before .before .before .before .before .before .before .before .before .before .before in
     let here = c .before .before .before .before in
     let short = read-short (at .args .h .width) (at .args .h .groups) (now (at .args .planes)) (c .before .before .before .before .before .loop .k) (more here) in
-    decoding-more _ _ _ _ _ (here .before .loop .inv) (within here) (pair at) short (c .before .before .decode-sample .ensures ∙ rw (codeword-is (c .before .before .before)))
+    decoding-more _ _ _ _ _ _ (here .before .loop .inv) (within here) (pair at) short (c .before .before .decode-byte .ensures ∙ rw (codeword-is (c .before .before .before)))
 
 same-length : tie.Need-same-length Inv-loop μ-loop
 same-length c = c .before .loop .inv .filled .size
 
 returns : tie.Need-returns Inv-loop μ-loop
 returns c =
-    let at = c .before .before .before .before .before .before in
-    let all = rw (c .before .before .before .sample-count .ensures) at (c .loop-test .left) in
+    let at = c .before .before .before .before .before .before .before in
+    let all = rw (c .before .before .before .before .sample-count .ensures) at (c .loop-test .left) in
     decoding-done _ _ _ _ _ (c .before .loop .inv) (rw (read-length (at .args .h .width) (at .args .h .groups) (now (at .args .planes))) all)
 
 pub decode-into-spec : {M : Type 1} → statement M
@@ -103,7 +103,7 @@ decode-into-spec =
     (search needs)
     loop-holds
     codeword-at-requires
-    decode-sample-requires
+    decode-byte-requires
     slice-write-out
     cast-moved
     add-moved
