@@ -7,9 +7,10 @@ use Prim.Native.Nat.{ℕ}
 use native.Mathlib.Omega.{arith}
 use Rattle.quantizer.specs.Pair.{Pair}
 use Rattle.state.specs.declared.State.{State}
-use Rattle.encode.specs.Encode.{encodedFrame, encodeReply}
+use Rattle.encode.specs.Levels.{encodedFrame}
+use Rattle.encode.specs.Encode.{encodeReply}
 use Rattle.tracking.specs.Stream.{Transfer, written, encoderAfter, arrived, Passed, finally, atWidth}
-use Rattle.tracking.proofs.Frames.{encodable, written-is, encoder-is, arrives}
+use Rattle.tracking.proofs.Frames.{sentLevels, encodable, written-is, encoder-is, arrives}
 use Rattle.tracking.proofs.Narrower.{narrower-frame, narrower-state}
 use Rattle.tracking.proofs.Demand3.{frame-sound, frame-header}
 
@@ -23,10 +24,10 @@ module _ (s : State) (x : Transfer) (encodes : encodeReply s (x .law) (x .width)
       let k = encodable s x encodes in
       let k′ = encodable s (atWidth v buffer x) encodes′ in
       let sent = written-is s x encodes in
-      let header = frame-header s (x .law) (x .width) (x .samples) k in
-      let a = arrives (encodedFrame s (x .law) (x .width) (x .samples)) (x .stations) (frame-sound s (x .law) (x .width) (x .samples) k) (rw sent at drops) in
+      let header = frame-header s (x .width) (sentLevels x) k in
+      let a = arrives (encodedFrame s (x .width) (sentLevels x)) (x .stations) (frame-sound s (x .width) (sentLevels x) k) (rw sent at drops) in
       rw (sent, a .is, header, written-is s (atWidth v buffer x) encodes′)
-      (narrower-frame s (x .law) v (x .width) (x .samples) (k .range) (k′ .header .pair) (k .header .pair) (rw header at (a .width .high)))
+      (narrower-frame s v (x .width) (sentLevels x) (k′ .header .pair) (k .header .pair) (rw header at (a .width .high)))
 
   -- whichever width the encoder is asked for, it is in the same state after the frame: that of its core width
   pub same-state-after : (v : ℕ) → encodeReply s (x .law) v (x .samples) buffer ≡ 0 → encoderAfter s (atWidth v buffer x) ≡ encoderAfter s x
@@ -36,4 +37,4 @@ module _ (s : State) (x : Transfer) (encodes : encodeReply s (x .law) (x .width)
       let p′ = encodable s (atWidth v buffer x) encodes′ .header .pair in
       let core : Pair (s .core) (s .core) = record { cores = p .cores; widths = record { low = omega arith; high = omega (arith, p .cores .high) } } in
       rw (encoder-is s x encodes, encoder-is s (atWidth v buffer x) encodes′)
-      (sym (narrower-state s (x .law) (s .core) v (x .samples) (k .range) core p′ (p′ .widths .low)) ∙ narrower-state s (x .law) (s .core) (x .width) (x .samples) (k .range) core p (p .widths .low))
+      (sym (narrower-state s (s .core) v (sentLevels x) core p′ (p′ .widths .low)) ∙ narrower-state s (s .core) (x .width) (sentLevels x) core p (p .widths .low))

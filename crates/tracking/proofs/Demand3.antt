@@ -18,40 +18,40 @@ use Rattle.frame.proofs.Return.{received-return}
 use Rattle.frame.proofs.Thinning.{received-thinned}
 use Rattle.frame.proofs.Kept.{written-sound}
 use Rattle.reset.specs.Reset.{resetState}
-use Rattle.encode.specs.Encode.{encodedHeader, encodedFrame, encodedCodewords, encodedState}
-use Rattle.encode.specs.Inner.{Encodable}
+use Rattle.encode.specs.Levels.{encodedHeader, encodedFrame, encodedMemory, encodedCodewords, encodedState}
 use Rattle.encode.proofs.Encoding.{codewords-length}
-use Rattle.decode.specs.Decode.{decodedState, decodeState}
+use Rattle.decode.specs.Codewords.{decodedMemory, decodedState}
+use Rattle.decode.specs.Decode.{decodeState}
 use Rattle.tracking.specs.Stream.{Transfer, encoderAfter, finally, decoderAfter, Unrefused, AllUnrefused, EqualThroughout}
-use Rattle.tracking.proofs.Runs.{states-track, codewords-short}
-use Rattle.tracking.proofs.Frames.{encodable, written-is, encoder-is, arrives}
+use Rattle.tracking.proofs.Runs.{memories-track, codewords-short}
+use Rattle.tracking.proofs.Frames.{sentLevels, Sendable, encodable, written-is, encoder-is, arrives}
 
--- the frame of a run of samples that encode takes: it is sound, its header is the encoder's, and it reads back as the run's codewords
-module _ (s : State) (LAW w : ℕ) (xs : List ℕ) {room : ℕ} (k : Encodable s (encodedHeader (s .core) w (length xs)) (length xs) room) where
-  pub frame-sound : Sound (headerOf (encodedFrame s LAW w xs)) (length (encodedFrame s LAW w xs))
+-- the frame of a run of levels that encode takes: it is sound, its header is the encoder's, and it reads back as the run's codewords
+module _ (s : State) (w : ℕ) (xs : List ℕ) {room : ℕ} (k : Sendable s w xs room) where
+  pub frame-sound : Sound (headerOf (encodedFrame s w xs)) (length (encodedFrame s w xs))
   unfolding encodedFrame
-  frame-sound = written-sound (k .header) (encodedCodewords s LAW w xs)
+  frame-sound = written-sound (k .header) (encodedCodewords (s .core) w (s .memory) xs)
 
-  pub frame-header : headerOf (encodedFrame s LAW w xs) ≡ encodedHeader (s .core) w (length xs)
+  pub frame-header : headerOf (encodedFrame s w xs) ≡ encodedHeader (s .core) w (length xs)
   unfolding encodedFrame
-  frame-header = written-header (sound-fields (k .header)) (encodedCodewords s LAW w xs)
+  frame-header = written-header (sound-fields (k .header)) (encodedCodewords (s .core) w (s .memory) xs)
 
-  pub frame-received : received (encodedFrame s LAW w xs) ≡ encodedCodewords s LAW w xs
+  pub frame-received : received (encodedFrame s w xs) ≡ encodedCodewords (s .core) w (s .memory) xs
   unfolding encodedFrame encodedCodewords
   frame-received =
-      received-return (sound-fields (k .header)) (encodedCodewords s LAW w xs) (codewords-length s LAW w xs ∙ k .whole) (codewords-short LAW w s (k .range) (k .header .pair) xs)
+      received-return (sound-fields (k .header)) (encodedCodewords (s .core) w (s .memory) xs) (codewords-length (s .core) w (s .memory) xs (k .whole)) (codewords-short (k .header .pair) (s .memory) xs)
 
-  -- a decoder at the encoder's state that is given the frame thinned to width v ends in the encoder's next state
-  pub decoder-tracks : (LAW′ v : ℕ) → Within (s .core) w v
-      → decodedState s LAW′ (headerOf (thinned v (encodedFrame s LAW w xs)) .width) (received (thinned v (encodedFrame s LAW w xs))) ≡ encodedState s LAW w xs
-  unfolding decodedState encodedState encodedCodewords
-  decoder-tracks LAW′ v target =
+  -- a decoder at the encoder's state that is given the frame thinned to width v ends in the encoder's next state, whatever its end makes of it
+  pub decoder-tracks : (v : ℕ) → Within (s .core) w v
+      → decodedState s (headerOf (thinned v (encodedFrame s w xs)) .width) (received (thinned v (encodedFrame s w xs))) ≡ encodedState s w xs
+  unfolding decodedState decodedMemory encodedState encodedMemory encodedCodewords
+  decoder-tracks v target =
       let high = k .header .pair .widths .high in
       let small : v < 8 = omega (arith, target .high) in
-      let f = encodedFrame s LAW w xs in
+      let f = encodedFrame s w xs in
       let codewords = received-thinned {w = v} f (rw frame-header (target .high)) in
       let pv : Pair v (s .core) = record { cores = k .header .pair .cores; widths = record { low = target .low; high = omega (arith, target .high) } } in
-      rw (codewords, thinned-header small f, frame-header, frame-received) (states-track LAW v w (target .high) LAW′ s (k .range) pv (k .header .pair) xs)
+      rw (codewords, thinned-header small f, frame-header, frame-received, memories-track (s .core) v w pv (k .header .pair) (target .high) (s .memory) xs)
 
 module _ (s : State) (x : Transfer) (u : Unrefused s s x) where
   -- one frame's transfer, from equal states
@@ -59,12 +59,13 @@ module _ (s : State) (x : Transfer) (u : Unrefused s s x) where
   unfolding decoderAfter decodeState
   transfer-tracks =
       let k = encodable s x (u .encodes) in
-      let f = encodedFrame s (x .law) (x .width) (x .samples) in
+      let levels = sentLevels x in
+      let f = encodedFrame s (x .width) levels in
       let sent = written-is s x (u .encodes) in
-      let header = frame-header s (x .law) (x .width) (x .samples) k in
-      let a = arrives f (x .stations) (frame-sound s (x .law) (x .width) (x .samples) k) (rw sent at (u .drops)) in
+      let header = frame-header s (x .width) levels k in
+      let a = arrives f (x .stations) (frame-sound s (x .width) levels k) (rw sent at (u .drops)) in
       rw (eq-eqb _ _ (u .decodes), sent, a .is, encoder-is s x (u .encodes), header)
-      (decoder-tracks s (x .law) (x .width) (x .samples) k (x .law′) (finally (x .width) (x .stations)) (rw header at (a .width)))
+      (decoder-tracks s (x .width) levels k (finally (x .width) (x .stations)) (rw header at (a .width)))
 
 -- from equal states, equal states after every frame
 pub stream-tracks : (s : State) (xs : List Transfer) → AllUnrefused s s xs → EqualThroughout s s xs

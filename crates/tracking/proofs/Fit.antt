@@ -14,7 +14,8 @@ use Rattle.frame.specs.Read.{thinned}
 use Rattle.frame.specs.Sound.{Sound}
 use Rattle.frame.proofs.Headers.{thinned-header}
 use Rattle.frame.proofs.Kept.{thinned-sound}
-use Rattle.encode.specs.Encode.{encodedFrame, encodedState, encodeReply}
+use Rattle.encode.specs.Levels.{encodedHeader, encodedFrame, encodedMemory, encodedState}
+use Rattle.encode.specs.Encode.{encodeReply}
 use Rattle.encode.specs.Inner.{Encodable}
 use Rattle.encode.proofs.Fitness.{encode-of}
 use Rattle.drop_planes.specs.Drop.{dropReply}
@@ -23,8 +24,8 @@ use Rattle.decode.specs.Decode.{decodeReply}
 use Rattle.decode.specs.Inner.{Decodable}
 use Rattle.decode.proofs.Fitness.{decode-of}
 use Rattle.tracking.specs.Stream.{Station, Transfer, encoderAfter, Passed, finally, decoderAfter, Unrefused, AllUnrefused, EqualThroughout, Narrowing, sentHeader, Fit, AllFit}
-use Rattle.tracking.proofs.Runs.{run-in-range, run-core}
-use Rattle.tracking.proofs.Frames.{written-is, encoder-is, passed-is, arrives}
+use Rattle.tracking.proofs.Runs.{run-in-range}
+use Rattle.tracking.proofs.Frames.{sentLevels, levels-sized, Sendable, written-is, encoder-is, passed-is, arrives}
 use Rattle.tracking.proofs.Demand3.{frame-sound, frame-header, transfer-tracks, stream-tracks}
 
 -- no base station refuses a sound frame that comes down to it
@@ -45,14 +46,17 @@ module _ (s : State) (x : Transfer) (i : InRange s) (k : Fit (s .core) x) where
   unfolding encodeReply
   encodes = encode-of s (x .law) (x .width) (length (x .samples)) (length (x .buffer)) (k .law) able
 
+  sendable : Sendable s (x .width) (sentLevels x) (length (x .buffer))
+  sendable = rw (levels-sized x) able
+
   abbrev frame : List ℕ
-  frame = encodedFrame s (x .law) (x .width) (x .samples)
+  frame = encodedFrame s (x .width) (sentLevels x)
 
   sound : Sound (headerOf frame) (length frame)
-  sound = frame-sound s (x .law) (x .width) (x .samples) able
+  sound = frame-sound s (x .width) (sentLevels x) sendable
 
   header : headerOf frame ≡ sentHeader (s .core) x
-  header = frame-header s (x .law) (x .width) (x .samples) able
+  header = frame-header s (x .width) (sentLevels x) sendable ∙ rw (levels-sized x)
 
   drops : Passed frame (x .stations)
   drops = passes frame (x .stations) sound (rw header (k .stations))
@@ -74,12 +78,12 @@ module _ (s : State) (x : Transfer) (i : InRange s) (k : Fit (s .core) x) where
       }
 
   pub after-in-range : InRange (encoderAfter s x)
-  unfolding encodedState
-  after-in-range = rw (encoder-is s x encodes) (run-in-range (x .law) (x .width) s i (k .header .pair) (x .samples))
+  unfolding encodedState encodedMemory
+  after-in-range = rw (encoder-is s x encodes) (record { memory = run-in-range (k .header .pair) (s .memory) (i .memory) (sentLevels x); cores = i .cores })
 
   pub after-core : encoderAfter s x .core ≡ s .core
   unfolding encodedState
-  after-core = rw (encoder-is s x encodes) (run-core (x .law) (x .width) s (x .samples))
+  after-core = rw (encoder-is s x encodes)
 
 pub stream-fits : (s : State) (core : ℕ) → InRange s → s .core ≡ core → (xs : List Transfer) → AllFit core xs → AllUnrefused s s xs
 stream-fits s core i e [] k = tt

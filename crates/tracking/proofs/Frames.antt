@@ -15,28 +15,42 @@ use Rattle.frame.proofs.Sizes.{frame-length}
 use Rattle.frame.proofs.Headers.{thinned-header}
 use Rattle.frame.proofs.Thinning.{thinned-same, thinned-thinned}
 use Rattle.frame.proofs.Kept.{thinned-sound, thinned-length}
-use Rattle.encode.specs.Encode.{encodedFrame, encodedCodewords, encodedState, encodeReply, encodeOctets, encodeState, encodeOut}
+use Rattle.encode.specs.Levels.{encodedHeader, encodedFrame, encodedCodewords, encodedState}
+use Rattle.encode.specs.Encode.{levelsOf, encodeReply, encodeOctets, encodeState, encodeOut}
 use Rattle.encode.specs.Inner.{Encodable}
 use Rattle.encode.proofs.Fitness.{encode-says}
+use Rattle.encode.proofs.Expanding.{levels-length}
 use Rattle.drop_planes.specs.Drop.{dropReply, dropOctets, dropOut}
 use Rattle.drop_planes.specs.Inner.{Droppable}
 use Rattle.drop_planes.proofs.Fitness.{drop-says}
-use Rattle.tracking.specs.Stream.{Station, Transfer, written, encoderAfter, passedOn, arrived, Passed, finally, sentHeader}
+use Rattle.tracking.specs.Stream.{Station, Transfer, written, encoderAfter, passedOn, arrived, Passed, finally}
+
+-- the levels that the encoder's end makes of the samples
+abbrev pub sentLevels : Transfer → List ℕ
+sentLevels x = levelsOf (x .law) (x .samples)
+
+pub levels-sized : (x : Transfer) → length (sentLevels x) ≡ length (x .samples)
+levels-sized x = levels-length (x .law) (x .samples)
+
+-- a frame of levels that encode takes, whichever end they come from
+abbrev pub Sendable : State → ℕ → List ℕ → ℕ → Type 0
+Sendable s width levels room = Encodable s (encodedHeader (s .core) width (length levels)) (length levels) room
 
 module _ (s : State) (x : Transfer) (fits : encodeReply s (x .law) (x .width) (x .samples) (x .buffer) ≡ 0) where
-  pub encodable : Encodable s (sentHeader (s .core) x) (length (x .samples)) (length (x .buffer))
+  pub encodable : Sendable s (x .width) (sentLevels x) (length (x .buffer))
   unfolding encodeReply
-  encodable = encode-says s (x .law) (x .width) (length (x .samples)) (length (x .buffer)) fits .1
+  encodable = rw (levels-sized x) (encode-says s (x .law) (x .width) (length (x .samples)) (length (x .buffer)) fits .1)
 
   -- the octets that encode reports are the encoded frame
-  pub written-is : written s x ≡ encodedFrame s (x .law) (x .width) (x .samples)
+  pub written-is : written s x ≡ encodedFrame s (x .width) (sentLevels x)
   unfolding written encodeOctets encodeOut encodedFrame
   written-is =
-      let h = sentHeader (s .core) x in
-      let frame = encodedFrame s (x .law) (x .width) (x .samples) in
-      rw (eq-eqb _ _ fits) (take-at frame (drop (dueLength h) (x .buffer)) (dueLength h) (frame-length h (encodedCodewords s (x .law) (x .width) (x .samples))))
+      let h = encodedHeader (s .core) (x .width) (length (sentLevels x)) in
+      let frame = encodedFrame s (x .width) (sentLevels x) in
+      rw (eq-eqb _ _ fits, ← levels-sized x)
+      (take-at frame (drop (dueLength h) (x .buffer)) (dueLength h) (frame-length h (encodedCodewords (s .core) (x .width) (s .memory) (sentLevels x))))
 
-  pub encoder-is : encoderAfter s x ≡ encodedState s (x .law) (x .width) (x .samples)
+  pub encoder-is : encoderAfter s x ≡ encodedState s (x .width) (sentLevels x)
   unfolding encoderAfter encodeState
   encoder-is = rw (eq-eqb _ _ fits)
 

@@ -11,30 +11,29 @@ use Rattle.quantizer.specs.Pair.{Pair}
 use Rattle.quantizer.proofs.Allowed.{allowed-thinned}
 use Rattle.quantizer.proofs.Pairs.{pair-width}
 use Rattle.state.specs.declared.State.{State}
-use Rattle.state.specs.InRange.{InRange}
 use Rattle.engine.specs.Estimate.{Y}
 use Rattle.frame.specs.Planes.{frameOf}
 use Rattle.frame.specs.Read.{thinned}
 use Rattle.frame.proofs.Headers.{Fields}
 use Rattle.frame.proofs.Thinning.{frame-thinned}
-use Rattle.encode.specs.Encode.{encodedHeader, encodedFrame, encodedCodewords, encodedState}
-use Rattle.tracking.proofs.Runs.{codewords-thinned, states-same}
+use Rattle.encode.specs.Levels.{encodedHeader, encodedFrame, encodedMemory, encodedCodewords, encodedState}
+use Rattle.tracking.proofs.Runs.{codewords-thinned, memories-same}
 
-module _ (s : State) (LAW v w : ℕ) (xs : List ℕ) (range : InRange s) (pv : Pair v (s .core)) (pw : Pair w (s .core)) (narrow : v ≤ w) where
-  pub narrower-codewords : encodedCodewords s LAW v xs ≡ map (λ (I : ℕ). I >> (w - v)) (encodedCodewords s LAW w xs)
+module _ (s : State) (v w : ℕ) (xs : List ℕ) (pv : Pair v (s .core)) (pw : Pair w (s .core)) (narrow : v ≤ w) where
+  pub narrower-codewords : encodedCodewords (s .core) v (s .memory) xs ≡ map (λ (I : ℕ). I >> (w - v)) (encodedCodewords (s .core) w (s .memory) xs)
   unfolding encodedCodewords
-  narrower-codewords = codewords-thinned LAW v w narrow s range pv pw xs
+  narrower-codewords = codewords-thinned (s .core) v w pv pw narrow (s .memory) xs
 
-  pub narrower-frame : thinned v (encodedFrame s LAW w xs) ≡ encodedFrame s LAW v xs
+  pub narrower-frame : thinned v (encodedFrame s w xs) ≡ encodedFrame s v xs
   unfolding encodedFrame
   narrower-frame =
       let fields : Fields (encodedHeader (s .core) w (length xs)) = record { width = omega (arith, pw .widths .high); core = omega (arith, pw .cores .high) } in
-      frame-thinned narrow fields (encodedCodewords s LAW w xs) ∙ ap (frameOf (encodedHeader (s .core) v (length xs))) (sym narrower-codewords)
+      frame-thinned narrow fields (encodedCodewords (s .core) w (s .memory) xs) ∙ ap (frameOf (encodedHeader (s .core) v (length xs))) (sym narrower-codewords)
 
-  pub narrower-state : encodedState s LAW v xs ≡ encodedState s LAW w xs
-  unfolding encodedState
-  narrower-state = states-same LAW v w narrow s range pv pw xs
+  pub narrower-state : encodedState s v xs ≡ encodedState s w xs
+  unfolding encodedState encodedMemory
+  narrower-state = rw (memories-same (s .core) v w pv pw narrow (s .memory) xs)
 
 -- at one state, every difference that a codeword allows is also allowed by its thinned form
-pub allowed-at-state : (s : State) (v w : ℕ) → Pair v (s .core) → Pair w (s .core) → v ≤ w → (I D : ℕ) → Allows w (Y s) I D → Allows v (Y s) (I >> (w - v)) D
-allowed-at-state s v w pv pw narrow I D a = allowed-thinned (Y s) I D (pair-width pv) (pair-width pw) narrow a
+pub allowed-at-state : (s : State) (v w : ℕ) → Pair v (s .core) → Pair w (s .core) → v ≤ w → (I D : ℕ) → Allows w (Y (s .memory)) I D → Allows v (Y (s .memory)) (I >> (w - v)) D
+allowed-at-state s v w pv pw narrow I D a = allowed-thinned (Y (s .memory)) I D (pair-width pv) (pair-width pw) narrow a

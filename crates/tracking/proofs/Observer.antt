@@ -7,50 +7,50 @@ use native.Mathlib.Omega.{arith}
 use lib.ListN.{length}
 use borrow.Author.Tests.{eq-eqb}
 use Rattle.lists.specs.Run.{last}
+use Rattle.state.specs.declared.memory.Memory.{Memory}
 use Rattle.state.specs.declared.State.{State}
 use Rattle.sample.specs.Decode.{decoderNext}
 use Rattle.sample.proofs.Cores.{core-of-thinned}
-use Rattle.sample.proofs.Tracks.{decode-by-core, decode-core}
+use Rattle.sample.proofs.Tracks.{decode-by-core}
 use Rattle.frame.specs.Header.{headerOf}
 use Rattle.frame.specs.Read.{received, thinned}
 use Rattle.frame.specs.Sound.{Sound}
 use Rattle.frame.proofs.Headers.{thinned-header}
 use Rattle.frame.proofs.Thinning.{received-thinned}
-use Rattle.decode.specs.Decode.{decodedState, decodeReply, decodeState}
+use Rattle.decode.specs.Codewords.{decodedMemory, decodedState}
+use Rattle.decode.specs.Decode.{decodeReply, decodeState}
 use Rattle.decode.proofs.Fitness.{decode-says}
 use Rattle.tracking.specs.Stream.{TwoFrames, one, other, Agree, AllAgree, EqualStates}
 use Rattle.tracking.proofs.Runs.{thin}
 
 -- a run over codewords, and over the same codewords thinned to the core
-by-core : (LAW LAW′ x y : ℕ) (s : State) → s .core ≡ y → y ≤ x → (cws : List ℕ)
-    → last (decoderNext LAW x) s cws ≡ last (decoderNext LAW′ y) s (map (thin x y) cws)
+by-core : (core x : ℕ) (m : Memory) → core ≤ x → (cws : List ℕ) → last (decoderNext core x) m cws ≡ last (decoderNext core core) m (map (thin x core) cws)
 unfolding last
-by-core LAW LAW′ x y s core narrow [] = refl
-by-core LAW LAW′ x y s core narrow (c ∷ cs) =
-    let low : s .core ≤ y = omega arith in
-    let step : decoderNext LAW x s c ≡ decoderNext LAW′ y s (thin x y c) = decode-by-core s LAW LAW′ x y c (thin x y c) (sym (core-of-thinned s y x c low narrow)) in
-    by-core LAW LAW′ x y (decoderNext LAW x s c) (decode-core s LAW x c ∙ core) narrow cs
-    ∙ ap (λ (t : State). last (decoderNext LAW′ y) t (map (thin x y) cs)) step
+by-core core x m narrow [] = refl
+by-core core x m narrow (c ∷ cs) =
+    let step : decoderNext core x m c ≡ decoderNext core core m (thin x core c) =
+    decode-by-core core m x core c (thin x core c) (sym (core-of-thinned core core x c (omega arith) narrow)) in
+    by-core core x (decoderNext core x m c) narrow cs ∙ ap (λ (t : Memory). last (decoderNext core core) t (map (thin x core) cs)) step
 
 -- the state that decoding a frame ends in
-abbrev after : State → ℕ → List ℕ → State
-after s LAW frame = decodedState s LAW (headerOf frame .width) (received frame)
+abbrev after : State → List ℕ → State
+after s frame = decodedState s (headerOf frame .width) (received frame)
 
 -- decoding a frame, and decoding its core planes alone, end in one state
-pub decoded-by-core-planes : (s : State) (LAW LAW′ : ℕ) (frame : List ℕ) → Sound (headerOf frame) (length frame) → headerOf frame .core ≡ s .core
-    → after s LAW frame ≡ after s LAW′ (thinned (headerOf frame .core) frame)
-unfolding decodedState
-decoded-by-core-planes s LAW LAW′ frame sound core =
+pub decoded-by-core-planes : (s : State) (frame : List ℕ) → Sound (headerOf frame) (length frame) → headerOf frame .core ≡ s .core
+    → after s frame ≡ after s (thinned (headerOf frame .core) frame)
+unfolding decodedState decodedMemory
+decoded-by-core-planes s frame sound core =
     let h = headerOf frame in
     let narrow = sound .header .pair .widths .low in
     let small : h .core < 8 = omega (arith, sound .header .pair .cores .high) in
-    rw (received-thinned frame narrow, thinned-header small frame) (by-core LAW LAW′ (h .width) (h .core) s (sym core) narrow (received frame))
+    rw (received-thinned frame narrow, thinned-header small frame, core) (λ i. record { memory = by-core (s .core) (h .width) (s .memory) (rw core at narrow) (received frame) i; core = s .core })
 
 -- two frames with the same core planes
-pub same-core-planes : (s : State) (LAW LAW′ : ℕ) (f f′ : List ℕ) → Sound (headerOf f) (length f) → Sound (headerOf f′) (length f′)
-    → headerOf f .core ≡ s .core → headerOf f′ .core ≡ s .core → thinned (headerOf f .core) f ≡ thinned (headerOf f′ .core) f′ → after s LAW f ≡ after s LAW′ f′
-same-core-planes s LAW LAW′ f f′ sound sound′ core core′ same =
-    decoded-by-core-planes s LAW LAW′ f sound core ∙ ap (after s LAW′) same ∙ sym (decoded-by-core-planes s LAW′ LAW′ f′ sound′ core′)
+pub same-core-planes : (s : State) (f f′ : List ℕ) → Sound (headerOf f) (length f) → Sound (headerOf f′) (length f′)
+    → headerOf f .core ≡ s .core → headerOf f′ .core ≡ s .core → thinned (headerOf f .core) f ≡ thinned (headerOf f′ .core) f′ → after s f ≡ after s f′
+same-core-planes s f f′ sound sound′ core core′ same =
+    decoded-by-core-planes s f sound core ∙ ap (after s) same ∙ sym (decoded-by-core-planes s f′ sound′ core′)
 
 -- of the calls: one frame each, from one state
 observers-step : (s : State) (x : TwoFrames) → Agree s s x → one s s x ≡ other s s x
@@ -59,7 +59,7 @@ observers-step s x a =
     let p = decode-says s (x .law) (headerOf (x .frame)) (length (x .frame)) (length (x .buffer)) (a .decodes) .1 in
     let q = decode-says s (x .law′) (headerOf (x .frame′)) (length (x .frame′)) (length (x .buffer′)) (a .decodes′) .1 in
     rw (eq-eqb _ _ (a .decodes), eq-eqb _ _ (a .decodes′))
-    (same-core-planes s (x .law) (x .law′) (x .frame) (x .frame′) (p .sound) (q .sound) (p .core) (q .core) (a .core-planes))
+    (same-core-planes s (x .frame) (x .frame′) (p .sound) (q .sound) (p .core) (q .core) (a .core-planes))
 
 -- two streams that agree on the core planes have equal states after every frame
 pub observers-agree : (s : State) (xs : List TwoFrames) → AllAgree s s xs → EqualStates s s xs

@@ -11,7 +11,8 @@ use Rattle.frame.specs.declared.header.Header.{Header}
 use Rattle.frame.specs.Header.{headerOf, dueLength, sampleCount}
 use Rattle.frame.specs.Read.{narrowed, thinned}
 use Rattle.frame.specs.Sound.{SoundHeader}
-use Rattle.encode.specs.Encode.{encodedHeader, encodeReply, encodeOctets, encodeState, encodeOut}
+use Rattle.encode.specs.Levels.{encodedHeader}
+use Rattle.encode.specs.Encode.{encodeReply, encodeOctets, encodeState, encodeOut}
 use Rattle.drop_planes.specs.Drop.{dropReply, dropOctets, dropOut}
 use Rattle.decode.specs.Decode.{decodeReply, decodeState}
 
