@@ -5,6 +5,7 @@ pub mod Bounds
 pub mod Thresholds
 pub mod Nesting
 pub mod Halves
+pub mod Multipliers
 pub mod Ranges
 pub mod Coding
 pub mod Differences

@@ -12,7 +12,7 @@ use Rattle.lists.specs.Tabulate.{entries, tabulate}
 use Rattle.quantizer.specs.Codeword.{Width, Codeword, CoreCodeword}
 use Rattle.quantizer.specs.Table.{Level, level, output}
 use Rattle.quantizer.specs.Output.{outputs, table12, table13, table14, table15, RECONST}
-use Rattle.quantizer.specs.Multiplier.{IM-core, multipliers, speeds, FUNCTW, FUNCTF}
+use Rattle.quantizer.specs.Multiplier.{IM-core, WI-2, WI-3, WI-4, FUNCTW, FI-2, FI-3, FI-4, FUNCTF}
 use Rattle.quantizer.proofs.Columns.{column}
 use Rattle.quantizer.proofs.Tests.{at-width, at-codeword, at-core}
 
@@ -47,11 +47,11 @@ core-near h = is-near 135 563 _ (at-core (λ w I. nearb 135 563 (output (outputs
 
 -- from -22 to 1,108
 pub functw-near : {core I : ℕ} → CoreCodeword core I → Near 22 1130 (FUNCTW core I)
-unfolding FUNCTW multipliers IM-core
+unfolding FUNCTW WI-2 WI-3 WI-4 IM-core
 functw-near h = is-near 22 1130 _ (at-core (λ w I. nearb 22 1130 (FUNCTW w I)) tt h)
 
 pub functf-small : {core I : ℕ} → CoreCodeword core I → FUNCTF core I ≤ 7
-unfolding FUNCTF speeds IM-core
+unfolding FUNCTF FI-2 FI-3 FI-4 IM-core
 functf-small h = leb→le _ _ (at-core (λ w I. leb (FUNCTF w I) 7) tt h)
 
 -- the levels of the sign 0 are those of both signs, read by magnitude
