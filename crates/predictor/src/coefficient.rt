@@ -48,9 +48,9 @@ pub fn upa1(pk0: u16, pk1: u16, a1: u16, sigpk: u16) -> u16
 {
     let pks = pk0 ^ pk1;
     let uga1 = choose(
-        (pks == 0) & (sigpk == 0),
-        192,
-        choose((pks == 1) & (sigpk == 0), 65344, 0),
+        sigpk == 0,
+        choose(pks == 0, 192, choose(pks == 1, 65344, 0)),
+        0,
     );
     plus(a1, plus(uga1, ul(a1)))
 }
@@ -75,11 +75,7 @@ fn uga2(uga2b: u32, sigpk: u16) -> u16
 {
     let gain = (uga2b >> 7) as u16;
     let uga2s = uga2b >> 16;
-    choose(
-        (uga2s == 0) & (sigpk == 0),
-        gain,
-        choose((uga2s == 1) & (sigpk == 0), gain + 64512, 0),
-    )
+    choose(sigpk == 0, choose(uga2s == 0, gain, gain + 64512), 0)
 }
 
 pub fn upa2(pk0: u16, pk1: u16, pk2: u16, a1: u16, a2: u16, sigpk: u16) -> u16
@@ -100,9 +96,9 @@ pub fn upb(un: u16, bn: u16, dq: u16) -> u16
 {
     let dqmag = dq % 16384;
     let ugbn = choose(
-        (un == 0) & (dqmag != 0),
-        128,
-        choose((un == 1) & (dqmag != 0), 65408, 0),
+        dqmag == 0,
+        0,
+        choose(un == 0, 128, choose(un == 1, 65408, 0)),
     );
     plus(bn, plus(ugbn, ul(bn)))
 }
