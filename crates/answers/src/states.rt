@@ -1,11 +1,11 @@
-// A state's 25 numbers between commas, in the order of text::variables::put_state.
+// A state's numbers between commas, in the order of state::numbers.
 ghost use Prim.Native.Nat.{_≤_};
 use crate::fields::has_part;
 use crate::fields::number_in;
 use crate::fields::part;
 use state::State;
-
-const NUMBERS: usize = 25;
+use state::memory::Memory;
+use state::numbers::NUMBERS;
 
 // Each number fits the width of its variable; whether it is in the range of the rules' table is the calls' to say.
 pub fn is_state(field: &[u8]) -> bool {
@@ -30,7 +30,7 @@ fn greatest(k: usize) -> u64 {
 pub fn state_in(field: &[u8]) -> State {
     let b = six(field, 7);
     let dq = six(field, 13);
-    State {
+    let memory = Memory {
         yu: word(field, 0),
         yl: (number_in(part(field, 1, b',')) % 4294967296) as u32,
         dms: word(field, 2),
@@ -45,6 +45,9 @@ pub fn state_in(field: &[u8]) -> State {
         pk1: word(field, 21),
         pk2: word(field, 22),
         td: word(field, 23),
+    };
+    State {
+        memory,
         core: (number_in(part(field, 24, b',')) % 256) as u8,
     }
 }

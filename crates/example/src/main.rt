@@ -1,5 +1,4 @@
 // How the calls are used, as the README shows it: a frame is encoded, loses two planes on the way, and is decoded.
-use checksum::same_state;
 use decode::decode;
 use drop_planes::drop_planes;
 use encode::encode;
@@ -8,6 +7,7 @@ use replies::Reply;
 use replies::number_of;
 use reset::reset;
 use state::State;
+use state::numbers::same_state;
 
 fn main() {
     let started = reset(2);

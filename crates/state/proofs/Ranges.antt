@@ -89,7 +89,7 @@ pub range-of : (s : State) → InRange s → inRange s ≡ true
 unfolding inRange
 range-of s i = every-of _ (memory-of (s .memory) (i .memory), (within-of (i .cores), tt))
 
-reset-memory-in-range : MemoryInRange resetMemory
+pub reset-memory-in-range : MemoryInRange resetMemory
 unfolding resetMemory
 reset-memory-in-range =
     let word14 : FloatWord 14 32 = omega arith in

@@ -20,16 +20,16 @@ use crate::runs::law_in;
 use crate::runs::law_out;
 use crate::signs::sign_at;
 use checksum::add;
-use sample::Encoded;
-use sample::decode_sample;
-use sample::encode_sample;
-use state::State;
-use state::reset;
+use sample::level::Encoded;
+use sample::pcm::decode_byte;
+use sample::pcm::encode_byte;
+use state::memory::Memory;
+use state::memory::reset_memory;
 
-// Both ends, how many samples were counted, and the checksums of their codewords and of the decoder's octets
+// The memories of both ends, how many samples were counted, and the checksums of their codewords and of the decoder's octets
 pub struct Track {
-    pub encoder: State,
-    pub decoder: State,
+    pub encoder: Memory,
+    pub decoder: Memory,
     pub samples: usize,
     pub codewords: u32,
     pub bytes: u32,
@@ -63,10 +63,10 @@ fn input_of(kind: Kind) -> usize
 fn started(run: Run, pcm: &[u8]) -> Track
     requires { ⌜ Pair (run .width) (run .core) ⌝ }
     requires { ⌜ inputOctets ≤ length (now pcm) ⌝ }
-    ensures { λ r. ⌜ Ready (run .width) r ⌝ }
+    ensures { λ r. ⌜ Ready r ⌝ }
 {
-    let s = reset(run.core);
-    let t = uncounted(s, s);
+    let m = reset_memory();
+    let t = uncounted(m, m);
     if run.homed {
         let h = encode_all(run, t, octets_of(pcm, HOMING, law_in(run)), false);
         let encoder = h.encoder;
@@ -76,7 +76,7 @@ fn started(run: Run, pcm: &[u8]) -> Track
     t
 }
 
-fn uncounted(encoder: State, decoder: State) -> Track
+fn uncounted(encoder: Memory, decoder: Memory) -> Track
     ensures { λ r. ⌜ Begun encoder decoder r ⌝ }
 {
     Track {
@@ -90,27 +90,27 @@ fn uncounted(encoder: State, decoder: State) -> Track
 
 // A codeword goes to the decoder, and is counted. Where there is an encoder, e is what it made of its octet.
 fn step(run: Run, t: Track, e: Encoded, note: Note) -> Track
-    requires { ⌜ Ready (run .width) t ⌝ }
+    requires { ⌜ Pair (run .width) (run .core) × Ready t ⌝ }
     requires { ⌜ Sent (run .width) e ⌝ }
-    ensures { λ r. ⌜ Ready (run .width) r ⌝ }
+    ensures { λ r. ⌜ Ready r ⌝ }
 {
     let before = t.decoder;
-    let d = decode_sample(before, law_out(run), run.width, e.codeword);
-    write_sample(note, e.codeword, d);
-    let encoder = e.state;
-    let decoder = d.state;
+    let p = decode_byte(before, run.core, law_out(run), run.width, e.codeword);
+    write_sample(note, run.core, e.codeword, p);
+    let encoder = e.memory;
+    let decoder = p.memory;
     Track {
         encoder,
         decoder,
         samples: t.samples,
         codewords: add(t.codewords, e.codeword as u32),
-        bytes: add(t.bytes, d.byte as u32),
+        bytes: add(t.bytes, p.byte as u32),
     }
 }
 
 fn encode_all(run: Run, from: Track, octets: &[u8], dumped: bool) -> Track
-    requires { ⌜ Ready (run .width) from ⌝ }
-    ensures { λ r. ⌜ Ready (run .width) r ⌝ }
+    requires { ⌜ Pair (run .width) (run .core) × Ready from ⌝ }
+    ensures { λ r. ⌜ Ready r ⌝ }
 {
     let mut t = from;
     let mut n = 0;
@@ -134,15 +134,15 @@ fn encode_all(run: Run, from: Track, octets: &[u8], dumped: bool) -> Track
 }
 
 fn sent(run: Run, t: Track, octet: u8) -> Encoded
-    requires { ⌜ Ready (run .width) t ⌝ }
+    requires { ⌜ Pair (run .width) (run .core) × Ready t ⌝ }
     ensures { λ r. ⌜ Sent (run .width) r ⌝ }
 {
     let encoder = t.encoder;
-    encode_sample(encoder, law_in(run), run.width, octet)
+    encode_byte(encoder, run.core, law_in(run), run.width, octet)
 }
 
 fn decode_all(run: Run, from: Track, count: usize, dumped: bool) -> Track
-    requires { ⌜ Ready (run .width) from ⌝ }
+    requires { ⌜ Pair (run .width) (run .core) × Ready from ⌝ }
 {
     let mut t = from;
     let mut register = 1;
@@ -169,13 +169,13 @@ fn decode_all(run: Run, from: Track, count: usize, dumped: bool) -> Track
 
 // A codeword that no encoder made
 fn received(run: Run, t: Track, place: usize, negative: bool) -> Encoded
-    requires { ⌜ Ready (run .width) t ⌝ }
+    requires { ⌜ Pair (run .width) (run .core) × Ready t ⌝ }
     ensures { λ r. ⌜ Sent (run .width) r ⌝ }
 {
-    let state = t.encoder;
+    let memory = t.encoder;
     Encoded {
         codeword: codeword_at(run, place, negative),
-        state,
+        memory,
     }
 }
 

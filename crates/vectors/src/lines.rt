@@ -5,9 +5,10 @@ use crate::names::named;
 use crate::runs::Kind;
 use crate::runs::Run;
 use checksum::of_state;
-use checksum::same_state;
 use libc::STDOUT_FILENO;
-use sample::Decoded;
+use sample::pcm::Played;
+use state::State;
+use state::numbers::same_state;
 use text::Line;
 
 // Where a sample stands in a sequence, the octet that the encoder was given, and whether the sample is dumped
@@ -22,16 +23,16 @@ pub fn write_run(run: Run, t: Track)
     requires { ⌜ Pair (run .width) (run .core) ⌝ }
 {
     let kind = run.kind;
-    summed(named(run), kind, t)
+    summed(named(run), kind, run.core, t)
         .octet(b'\n')
         .write(STDOUT_FILENO);
 }
 
-fn summed(line: Line, kind: Kind, t: Track) -> Line {
-    if do_ends_differ(kind, t) {
+fn summed(line: Line, kind: Kind, core: u8, t: Track) -> Line {
+    if do_ends_differ(kind, core, t) {
         return line.text(b" states differ");
     }
-    let decoder = t.decoder;
+    let decoder = decoder_of(core, t);
     let samples = t.samples as u64;
     let codewords = t.codewords as u64;
     let bytes = t.bytes as u64;
@@ -42,18 +43,23 @@ fn summed(line: Line, kind: Kind, t: Track) -> Line {
 }
 
 // An I-input and the held codeword have no encoder beside the decoder
-fn do_ends_differ(kind: Kind, t: Track) -> bool {
-    let encoder = t.encoder;
-    let decoder = t.decoder;
+fn do_ends_differ(kind: Kind, core: u8, t: Track) -> bool {
+    let memory = t.encoder;
+    let encoder = State { memory, core };
     match kind {
-        Kind::Normal | Kind::Overload | Kind::Jump => !same_state(encoder, decoder),
+        Kind::Normal | Kind::Overload | Kind::Jump => !same_state(encoder, decoder_of(core, t)),
         Kind::Codewords | Kind::Held => false,
     }
 }
 
-pub fn write_sample(note: Note, codeword: u8, d: Decoded) {
+fn decoder_of(core: u8, t: Track) -> State {
+    let memory = t.decoder;
+    State { memory, core }
+}
+
+pub fn write_sample(note: Note, core: u8, codeword: u8, p: Played) {
     if note.dumped {
-        answered(given(note), codeword, d)
+        answered(given(note), core, codeword, p)
             .octet(b'\n')
             .write(STDOUT_FILENO);
     }
@@ -68,12 +74,12 @@ fn given(note: Note) -> Line {
     line.text(b" -")
 }
 
-fn answered(line: Line, codeword: u8, d: Decoded) -> Line {
-    let state = d.state;
-    let byte = d.byte as u64;
-    let moved = d.moved as u64;
+fn answered(line: Line, core: u8, codeword: u8, p: Played) -> Line {
+    let memory = p.memory;
+    let byte = p.byte as u64;
+    let moved = p.moved as u64;
     line.next(codeword as u64)
         .next(byte)
         .next(moved)
-        .next(of_state(state) as u64)
+        .next(of_state(State { memory, core }) as u64)
 }

@@ -1,18 +1,19 @@
--- `vectors::drive::started` meets its contract: the reset state is in range, and homing keeps both states there.
+-- `vectors::drive::started` meets its contract: the reset memory is in range, and homing keeps both memories there.
 use borrow.Author.Needs.{needs}
-use Rattle.vectors.specs.Ready.{Kept, Ready}
-use Rattle.vectors.proofs.Keeps.{reset-kept, ready-of}
+use Rattle.state.specs.InRange.{MemoryInRange}
+use Rattle.state.proofs.Ranges.{reset-memory-in-range}
+use Rattle.vectors.specs.Ready.{Ready}
+use Rattle.vectors.proofs.Keeps.{ready-of}
 use Rattle.vectors.proofs.drive.started.Statement.{statement}
 use Rattle.vectors.proofs.drive.started.Tie as tie
 
-from-reset : (c : tie.After-uncounted) → Ready (c .before .before .before .args .run .width) (c .uncounted .result)
+from-reset : (c : tie.After-uncounted) → Ready (c .uncounted .result)
 from-reset c =
-    let start = c .before .before .before in
-    let kept : Kept (start .args .run .width) (c .before .reset .result) = rw (c .before .reset .ensures) (reset-kept (start .pre .0)) in
+    let kept : MemoryInRange (c .before .reset-memory .result) = rw (c .before .reset-memory .ensures) reset-memory-in-range in
     ready-of (c .uncounted .ensures) kept kept
 
 encode-all-requires : tie.Need-encode-all-requires
-encode-all-requires c κs = from-reset (c .before .before .before)
+encode-all-requires c κs = (c .before .before .before .before .before .before .pre .0, from-reset (c .before .before .before))
 
 returns : tie.Need-returns
 returns c =

@@ -1,4 +1,4 @@
--- `vectors::drive::step` meets its contract: both states stay in range.
+-- `vectors::drive::step` meets its contract: both memories stay in range.
 use borrow.Author.Needs.{needs}
 use Rattle.vectors.proofs.Keeps.{decode-kept}
 use Rattle.vectors.proofs.drive.step.Statement.{statement}
@@ -7,8 +7,8 @@ use Rattle.vectors.proofs.drive.step.Tie as tie
 returns : tie.Need-returns
 returns c =
     let start = c .before .before .before .before .before .before .before .before .before .before in
-    let decoded = c .before .before .before .before .before .before .before .decode-sample in
-    record { encoder = start .pre .1 .state; decoder = rw (decoded .ensures) (decode-kept (start .pre .0 .decoder) _ (start .pre .1 .codeword)) }
+    let decoded = c .before .before .before .before .before .before .before .decode-byte in
+    record { encoder = start .pre .1 .memory; decoder = rw (decoded .ensures) (decode-kept (start .pre .0 .0) (start .pre .0 .1 .decoder) _ (start .pre .1 .codeword)) }
 
 pub step-spec : {M : Type 1} → statement M
 step-spec =
