@@ -139,9 +139,9 @@ fn answer_level(number: u64, line: &[u8]) {
     }
     let law = octet_at(line, 1);
     let octet = octet_at(line, 2);
-    say_number(g711::expand(law, octet) as u64);
-    say_number(g711::above(law, octet) as u64);
-    say_number(g711::below(law, octet) as u64);
+    say_number(g711::expand(octet, law) as u64);
+    say_number(g711::above(octet, law) as u64);
+    say_number(g711::below(octet, law) as u64);
 }
 
 // The number that the field was seen to be
