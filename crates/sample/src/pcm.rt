@@ -58,12 +58,15 @@ pub fn requantized(law: u8, width: u8, y: u16, se: u16, sp: u8) -> u8
     codeword(width, y, subta(expand(sp, law), se))
 }
 
-// SYNC: requantize, then move
+// SYNC: requantize, then move. Most bytes requantize to the codeword that was received, and are not compared further.
 fn adjusted(law: u8, width: u8, y: u16, se: u16, i: u8, sp: u8) -> u8
     requires { ⌜ Within 544 5120 y × (se < 32768) × Codeword width i ⌝ }
     ensures { λ r. ⌜ r ≡ SD law width y se i sp ⌝ }
 {
     let j = requantized(law, width, y, se, sp);
+    if j == i {
+        return sp;
+    }
     moved_byte(order(width, j), order(width, i), sp, law)
 }
 
