@@ -1,6 +1,6 @@
 -- The loop that encodes all levels: the memory so far is in range, the run of the rest is the whole run, and the codewords so far stand in the
 -- buffer.
-use mathlib.Core.Path.{_≡_, _∙_}
+use mathlib.Core.Path.{_≡_}
 use mathlib.Core.List.{List}
 use Prim.Native.Nat.{ℕ, _+_, _≤_, _<_}
 use lib.ListN.{length, getD, set, take, drop}
@@ -55,12 +55,13 @@ module _ (core width : ℕ) (m : Memory) (levels before : List ℕ) where
         out = filled-all before (encodedCodewords core width m levels) (length levels) (c .filled) all;
       }
 
--- the codewords that were encoded, of n levels, are the first n of the buffer that they were put into
-module _ (core width : ℕ) (m : Memory) (levels : List ℕ) {n : ℕ} (sized : length levels ≡ n) where
-  pub codewords-length : length (encodedCodewords core width m levels) ≡ n
+-- the codewords that were encoded are the first of the buffer that they were put into
+module _ (core width : ℕ) (m : Memory) (levels : List ℕ) where
+  pub codewords-length : length (encodedCodewords core width m levels) ≡ length levels
   unfolding encodedCodewords
-  codewords-length = outs-length (encoderNext core width) (codewordOf core width) m levels ∙ sized
+  codewords-length = outs-length (encoderNext core width) (codewordOf core width) m levels
 
-  pub codewords-taken : {before after : List ℕ} {r : Memory} → EncodesAll core width m levels before after r → take n after ≡ encodedCodewords core width m levels
+  pub codewords-taken : {before after : List ℕ} {r : Memory} → EncodesAll core width m levels before after r
+      → take (length levels) after ≡ encodedCodewords core width m levels
   codewords-taken {before} c =
-      rw (c .out) (take-at (encodedCodewords core width m levels) (drop (length levels) before) n codewords-length)
+      rw (c .out) (take-at (encodedCodewords core width m levels) (drop (length levels) before) (length levels) codewords-length)

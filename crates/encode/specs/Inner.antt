@@ -1,8 +1,8 @@
 -- What the inner functions of encode ask and promise. A reader of the public contract does not need it.
 use mathlib.Core.List.{List, _++_}
 use mathlib.Core.Path.{_≡_}
-use Prim.Native.Nat.{ℕ, _≤_}
-use lib.ListN.{length, drop}
+use Prim.Native.Nat.{ℕ, _≤_, _<_}
+use lib.ListN.{length, getD, drop}
 use Rattle.state.specs.declared.memory.Memory.{Memory}
 use Rattle.state.specs.declared.State.{State}
 use Rattle.state.specs.InRange.{InRange}
@@ -10,7 +10,12 @@ use Rattle.frame.specs.declared.header.Header.{Header}
 use Rattle.frame.specs.Header.{dueLength, sampleCount}
 use Rattle.frame.specs.Planes.{frameOf}
 use Rattle.frame.specs.Sound.{SoundHeader}
+use Rattle.encode.specs.Encode.{levelsOf}
 use Rattle.encode.specs.Levels.{encodedMemory, encodedState, encodedCodewords}
+
+-- every level has 14 bits
+pub record Levels (levels : List ℕ) : Type 0 where
+  pub short : (i : ℕ) → i < length levels → getD levels i 0 < 16384
 
 -- what encode's 0 says of n samples and their frame's header, beside a law of 0 or 1
 pub record Encodable (s : State) (h : Header) (n room : ℕ) : Type 0 where
@@ -19,6 +24,9 @@ pub record Encodable (s : State) (h : Header) (n room : ℕ) : Type 0 where
   pub core : h .core ≡ s .core
   pub whole : n ≡ sampleCount h
   pub space : dueLength h ≤ room
+
+pub record ExpandsAll (LAW : ℕ) (samples before after : List ℕ) : Type 0 where
+  pub out : after ≡ levelsOf LAW samples ++ drop (length samples) before
 
 pub record EncodesAll (core width : ℕ) (m : Memory) (levels before after : List ℕ) (r : Memory) : Type 0 where
   pub memory : r ≡ encodedMemory core width m levels

@@ -8,7 +8,7 @@ ghost use Rattle.frame.specs.Header.{edition, group, mostGroups};
 ghost use Rattle.replies.specs.Reply.{numberOf};
 ghost use Rattle.encode.specs.Levels.{encodedHeader};
 ghost use Rattle.encode.specs.Encode.{levelsOf, encodeNumber, Encodes};
-ghost use Rattle.encode.specs.Inner.{Encodable, EncodesAll, EncodesFrame};
+ghost use Rattle.encode.specs.Inner.{Levels, Encodable, ExpandsAll, EncodesAll, EncodesFrame};
 use frame::header::EDITION;
 use frame::header::GROUP;
 use frame::header::Header;
@@ -16,11 +16,12 @@ use frame::header::MOST_SAMPLES;
 use frame::header::due_length;
 use frame::header::is_count;
 use frame::whole::write_frame;
+use g711::expand;
 use quantizer::pair::is_pair;
 use replies::Reply;
 use replies::is_done;
 use replies::is_law;
-use sample::pcm::encode_byte;
+use sample::level::encode_level;
 use state::State;
 use state::in_range;
 use state::memory::Memory;
@@ -89,10 +90,33 @@ fn encode_into(s: State, law: u8, h: Header, samples: &[u8], out: &mut [u8]) -> 
     requires { ⌜ Encodable s h (length (now samples)) (length (now out)) ⌝ }
     ensures { λ r. ⌜ EncodesFrame s h (levelsOf law (now (samples .entry))) (now (out .entry)) (now (out .exit)) r ⌝ }
 {
-    let mut codewords = blank();
-    let from = s.memory;
-    let memory = encode_all(from, s.core, law, h.width, samples, &mut codewords);
+    let mut levels = blank_levels();
+    expand_all(law, samples, &mut levels);
     let n = samples.len();
+    encode_levels(s, h, &levels[..n], out)
+}
+
+// The law ends here
+fn expand_all(law: u8, samples: &[u8], levels: &mut [u16])
+    requires { ⌜ length (now samples) ≤ length (now levels) ⌝ }
+    ensures { λ _. ⌜ ExpandsAll law (now (samples .entry)) (now (levels .entry)) (now (levels .exit)) ⌝ }
+{
+    let mut i = 0;
+    while i < samples.len() {
+        levels[i] = expand(samples[i], law);
+        i += 1;
+    }
+}
+
+// A frame of levels, whichever end they come from
+fn encode_levels(s: State, h: Header, levels: &[u16], out: &mut [u8]) -> State
+    requires { ⌜ Encodable s h (length (now levels)) (length (now out)) × Levels (now levels) ⌝ }
+    ensures { λ r. ⌜ EncodesFrame s h (now (levels .entry)) (now (out .entry)) (now (out .exit)) r ⌝ }
+{
+    let mut codewords = blank_codewords();
+    let from = s.memory;
+    let memory = encode_all(from, s.core, h.width, levels, &mut codewords);
+    let n = levels.len();
     write_frame(&codewords[..n], h, out);
     State {
         memory,
@@ -100,22 +124,21 @@ fn encode_into(s: State, law: u8, h: Header, samples: &[u8], out: &mut [u8]) -> 
     }
 }
 
-// The codewords of all samples, one to an octet
+// The codewords of all levels, one to an octet
 fn encode_all(
     from: Memory,
     core: u8,
-    law: u8,
     width: u8,
-    samples: &[u8],
+    levels: &[u16],
     codewords: &mut [u8],
 ) -> Memory
-    requires { ⌜ MemoryInRange from × Pair width core × (length (now samples) ≤ length (now codewords)) ⌝ }
-    ensures { λ r. ⌜ EncodesAll core width from (levelsOf law (now (samples .entry))) (now (codewords .entry)) (now (codewords .exit)) r ⌝ }
+    requires { ⌜ MemoryInRange from × Pair width core × (length (now levels) ≤ length (now codewords)) × Levels (now levels) ⌝ }
+    ensures { λ r. ⌜ EncodesAll core width from (now (levels .entry)) (now (codewords .entry)) (now (codewords .exit)) r ⌝ }
 {
     let mut memory = from;
     let mut i = 0;
-    while i < samples.len() {
-        let e = encode_byte(memory, core, law, width, samples[i]);
+    while i < levels.len() {
+        let e = encode_level(memory, core, width, levels[i]);
         codewords[i] = e.codeword;
         let next = e.memory;
         memory = next;
@@ -124,7 +147,13 @@ fn encode_all(
     memory
 }
 
-fn blank() -> [u8; MOST_SAMPLES]
+fn blank_levels() -> [u16; MOST_SAMPLES]
+    ensures { λ r. ⌜ length r ≡ mostGroups edition * group ⌝ }
+{
+    [0u16; MOST_SAMPLES]
+}
+
+fn blank_codewords() -> [u8; MOST_SAMPLES]
     ensures { λ r. ⌜ length r ≡ mostGroups edition * group ⌝ }
 {
     [0u8; MOST_SAMPLES]

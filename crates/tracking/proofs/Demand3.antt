@@ -39,7 +39,7 @@ module _ (s : State) (w : ℕ) (xs : List ℕ) {room : ℕ} (k : Sendable s w xs
   pub frame-received : received (encodedFrame s w xs) ≡ encodedCodewords (s .core) w (s .memory) xs
   unfolding encodedFrame encodedCodewords
   frame-received =
-      received-return (sound-fields (k .header)) (encodedCodewords (s .core) w (s .memory) xs) (codewords-length (s .core) w (s .memory) xs (k .whole)) (codewords-short (k .header .pair) (s .memory) xs)
+      received-return (sound-fields (k .header)) (encodedCodewords (s .core) w (s .memory) xs) (codewords-length (s .core) w (s .memory) xs ∙ k .whole) (codewords-short (k .header .pair) (s .memory) xs)
 
   -- a decoder at the encoder's state that is given the frame thinned to width v ends in the encoder's next state, whatever its end makes of it
   pub decoder-tracks : (v : ℕ) → Within (s .core) w v

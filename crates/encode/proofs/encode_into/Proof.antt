@@ -1,49 +1,37 @@
--- `encode::encode_into` meets its contract: the frame is written of the codewords of all samples.
+-- `encode::encode_into` meets its contract: the samples' levels are what is encoded.
 use borrow.Author.Needs.{needs}
 use mathlib.Core.Path.{sym, _∙_}
 use Prim.Native.Nat.{_≤_}
 use native.Mathlib.Omega.{arith}
 use lib.ListN.{length}
 use denote.Ref.{now}
-use Rattle.encode.specs.Levels.{encodedState}
-use Rattle.encode.specs.Encode.{levelsOf}
-use Rattle.encode.proofs.Expanding.{levels-length}
-use Rattle.encode.proofs.Encoding.{codewords-length, codewords-taken}
+use Rattle.encode.proofs.Expanding.{levels-length, levels-short, levels-taken}
 use Rattle.encode.proofs.encode_into.Statement.{statement}
 use Rattle.encode.proofs.encode_into.Tie as tie
 
--- a frame's samples have room among the codewords
-room : (c : tie.After-codewords) → length (now (c .before .before .before .before .before .args .samples)) ≤ length (c .before .before .blank .result)
+-- a frame's samples have room among the levels
+room : (c : tie.After-levels) → length (now (c .before .before .before .before .args .samples)) ≤ length (c .before .blank-levels .result)
 room c =
-    let pre = c .before .before .before .before .before .pre in
-    let most = rw (pre .header .known) at (pre .header .count .high) in
-    omega (arith, most, pre .whole, c .before .before .blank .ensures)
+    let able = c .before .before .before .before .pre in
+    let most = rw (able .header .known) at (able .header .count .high) in
+    omega (arith, most, able .whole, c .before .blank-levels .ensures)
 
-encode-all-requires : tie.Need-encode-all-requires
-encode-all-requires c κs =
-    let at = c .before .before .before .before .before in
-    (at .pre .range .memory, rw (← at .pre .core) (at .pre .header .pair), room c)
+slice-aggregate-encode-levels : tie.Need-slice-aggregate-encode-levels
+slice-aggregate-encode-levels c =
+    let at = c .before .before .before .before .before .before .before in
+    sym (rw (levels-taken _ _ (c .before .before .expand-all .ensures)) (levels-length (at .args .law) (now (at .args .samples))))
 
-slice-aggregate-write-frame : tie.Need-slice-aggregate-write-frame
-slice-aggregate-write-frame c =
+encode-levels-requires : tie.Need-encode-levels-requires
+encode-levels-requires c κs =
     let at = c .before .before .before .before .before .before .before .before in
-    let sized = levels-length (at .args .law) (now (at .args .samples)) in
-    sym (rw (codewords-taken _ _ _ _ sized (c .before .before .encode-all .ensures)) (codewords-length _ _ _ _ sized))
-
-write-frame-requires : tie.Need-write-frame-requires
-write-frame-requires c κs =
-    let at = c .before .before .before .before .before .before .before .before .before in
-    let sized = levels-length (at .args .law) (now (at .args .samples)) in
-    let taken = codewords-taken _ _ _ _ sized (c .before .before .before .encode-all .ensures) in
-    (at .pre .header, rw (taken, codewords-length (at .args .s .core) (at .args .h .width) (at .args .s .memory) (levelsOf (at .args .law) (now (at .args .samples))) sized) (omega (arith, at .pre .whole)), at .pre .space)
+    let law = at .args .law in
+    let samples = now (at .args .samples) in
+    rw (levels-taken law samples (c .before .before .before .expand-all .ensures), levels-length law samples) (at .pre, levels-short law samples)
 
 returns : tie.Need-returns
-unfolding encodedState
 returns c =
-    let at = c .before .before .before .before .before .before .before .before .before .before .before .before in
-    let coded = c .before .before .before .before .before .before .encode-all .ensures in
-    let taken = codewords-taken _ _ _ _ (levels-length (at .args .law) (now (at .args .samples))) coded in
-    record { state = rw (coded .memory); out = c .before .before .write-frame .ensures ∙ rw taken }
+    let encoded = c .before .before .encode-levels .ensures in
+    rw (levels-taken _ _ (c .before .before .before .before .before .before .expand-all .ensures)) at encoded
 
 pub encode-into-spec : {M : Type 1} → statement M
 encode-into-spec =
@@ -51,9 +39,9 @@ encode-into-spec =
     (tie.spec
     (search needs)
     (search needs)
-    encode-all-requires
-    (λ c. omega (arith, room (c .before .before), c .before .encode-all .kept))
-    slice-aggregate-write-frame
-    write-frame-requires
+    (λ c κs. room c)
+    (λ c. omega (arith, room (c .before .before), c .before .expand-all .kept))
+    slice-aggregate-encode-levels
+    encode-levels-requires
     (search needs)
     returns)
