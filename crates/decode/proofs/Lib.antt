@@ -1,3 +1,4 @@
 pub mod Fitness
 pub mod Decoding
+pub mod Playing
 pub mod Answers

@@ -8,7 +8,7 @@ use Rattle.lists.proofs.Parts.{getD-map}
 use Rattle.g711.specs.Expand.{EXPAND}
 use Rattle.g711.proofs.Extent.{expand-lt}
 use Rattle.encode.specs.Encode.{levelsOf}
-use Rattle.encode.specs.Inner.{Levels, ExpandsAll}
+use Rattle.encode.specs.Inner.{FourteenBits, ExpandsAll}
 
 module _ (LAW : ℕ) (samples : List ℕ) where
   pub levels-length : length (levelsOf LAW samples) ≡ length samples
@@ -18,7 +18,7 @@ module _ (LAW : ℕ) (samples : List ℕ) where
   level-at i h = getD-map (λ (S : ℕ). EXPAND S LAW) samples i 0 0 h
 
   -- each has 14 bits
-  pub levels-short : Levels (levelsOf LAW samples)
+  pub levels-short : FourteenBits (levelsOf LAW samples)
   levels-short = record { short = λ i h. let here = rw levels-length at h in rw (level-at i here) (expand-lt (getD samples i 0) LAW) }
 
   -- the levels that were expanded are the first of the buffer that they were put into

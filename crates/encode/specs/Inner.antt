@@ -14,7 +14,7 @@ use Rattle.encode.specs.Encode.{levelsOf}
 use Rattle.encode.specs.Levels.{encodedMemory, encodedState, encodedCodewords}
 
 -- every level has 14 bits
-pub record Levels (levels : List ℕ) : Type 0 where
+pub record FourteenBits (levels : List ℕ) : Type 0 where
   pub short : (i : ℕ) → i < length levels → getD levels i 0 < 16384
 
 -- what encode's 0 says of n samples and their frame's header, beside a law of 0 or 1

@@ -8,7 +8,7 @@ ghost use Rattle.frame.specs.Header.{edition, group, mostGroups};
 ghost use Rattle.replies.specs.Reply.{numberOf};
 ghost use Rattle.encode.specs.Levels.{encodedHeader};
 ghost use Rattle.encode.specs.Encode.{levelsOf, encodeNumber, Encodes};
-ghost use Rattle.encode.specs.Inner.{Levels, Encodable, ExpandsAll, EncodesAll, EncodesFrame};
+ghost use Rattle.encode.specs.Inner.{FourteenBits, Encodable, ExpandsAll, EncodesAll, EncodesFrame};
 use frame::header::EDITION;
 use frame::header::GROUP;
 use frame::header::Header;
@@ -110,7 +110,7 @@ fn expand_all(law: u8, samples: &[u8], levels: &mut [u16])
 
 // A frame of levels, whichever end they come from
 fn encode_levels(s: State, h: Header, levels: &[u16], out: &mut [u8]) -> State
-    requires { ⌜ Encodable s h (length (now levels)) (length (now out)) × Levels (now levels) ⌝ }
+    requires { ⌜ Encodable s h (length (now levels)) (length (now out)) × FourteenBits (now levels) ⌝ }
     ensures { λ r. ⌜ EncodesFrame s h (now (levels .entry)) (now (out .entry)) (now (out .exit)) r ⌝ }
 {
     let mut codewords = blank_codewords();
@@ -125,14 +125,8 @@ fn encode_levels(s: State, h: Header, levels: &[u16], out: &mut [u8]) -> State
 }
 
 // The codewords of all levels, one to an octet
-fn encode_all(
-    from: Memory,
-    core: u8,
-    width: u8,
-    levels: &[u16],
-    codewords: &mut [u8],
-) -> Memory
-    requires { ⌜ MemoryInRange from × Pair width core × (length (now levels) ≤ length (now codewords)) × Levels (now levels) ⌝ }
+fn encode_all(from: Memory, core: u8, width: u8, levels: &[u16], codewords: &mut [u8]) -> Memory
+    requires { ⌜ MemoryInRange from × Pair width core × (length (now levels) ≤ length (now codewords)) × FourteenBits (now levels) ⌝ }
     ensures { λ r. ⌜ EncodesAll core width from (now (levels .entry)) (now (codewords .entry)) (now (codewords .exit)) r ⌝ }
 {
     let mut memory = from;

@@ -10,12 +10,13 @@ use Rattle.quantizer.proofs.Pairs.{pair-width}
 use Rattle.frame.specs.Header.{mostGroups, sampleCount}
 use Rattle.frame.specs.Read.{codewords}
 use Rattle.frame.proofs.Codewords.{read-length, read-at, read-short}
-use Rattle.decode.proofs.Decoding.{Decoding, moved-bit, decoding-none, decoding-more, decoding-done}
+use Rattle.decode.proofs.Decoding.{decoding-none}
+use Rattle.decode.proofs.Playing.{moved-bit, Playing, playing-more, playing-done}
 use Rattle.decode.proofs.decode_into.Statement.{statement}
 use Rattle.decode.proofs.decode_into.Tie as tie
 
 abbrev Inv-loop : tie.InvT-loop
-Inv-loop s law h planes out₀ n g memory₀ moved₀ k₀ out memory moved k = Decoding law (s .core) (h .width) (s .memory) (codewords (h .width) (h .groups) planes) out₀ k memory moved out
+Inv-loop s law h planes out₀ n g memory₀ moved₀ k₀ out memory moved k = Playing law s (h .width) (codewords (h .width) (h .groups) planes) out₀ k memory moved out
 
 abbrev μ-loop : tie.MeasureT-loop
 μ-loop s law h planes out₀ n g memory₀ moved₀ k₀ out memory moved k = n - k
@@ -42,7 +43,7 @@ moved-few c = rw (c .before .decode-byte .ensures) (moved-bit _ _ _ _ _)
 loop-holds : tie.Need-loop-holds Inv-loop μ-loop
 loop-holds c =
     let at = c .before .before .before .before .before in
-    decoding-none _ _ _ _ _ _ (at .pre .0 .memory) (rw (read-length (at .args .h .width) (at .args .h .groups) (now (at .args .planes))) (at .pre .4))
+    decoding-none _ _ _ _ _ _ _ (at .pre .0 .memory) (rw (read-length (at .args .h .width) (at .args .h .groups) (now (at .args .planes))) (at .pre .4))
 
 codeword-at-requires : tie.Need-codeword-at-requires Inv-loop μ-loop
 codeword-at-requires c κs =
@@ -82,7 +83,7 @@ loop-again c =
     let at = c .before .before .before .before .before .before .before .before .before .before .before in
     let here = c .before .before .before .before in
     let short = read-short (at .args .h .width) (at .args .h .groups) (now (at .args .planes)) (c .before .before .before .before .before .loop .k) (more here) in
-    decoding-more _ _ _ _ _ _ (here .before .loop .inv) (within here) (pair at) short (c .before .before .decode-byte .ensures ∙ rw (codeword-is (c .before .before .before)))
+    playing-more _ _ _ _ _ (here .before .loop .inv) (within here) (pair at) short (c .before .before .decode-byte .ensures ∙ rw (codeword-is (c .before .before .before)))
 
 same-length : tie.Need-same-length Inv-loop μ-loop
 same-length c = c .before .loop .inv .filled .size
@@ -91,7 +92,7 @@ returns : tie.Need-returns Inv-loop μ-loop
 returns c =
     let at = c .before .before .before .before .before .before .before in
     let all = rw (c .before .before .before .before .sample-count .ensures) at (c .loop-test .left) in
-    decoding-done _ _ _ _ _ (c .before .loop .inv) (rw (read-length (at .args .h .width) (at .args .h .groups) (now (at .args .planes))) all)
+    playing-done _ _ _ _ _ (c .before .loop .inv) (rw (read-length (at .args .h .width) (at .args .h .groups) (now (at .args .planes))) all)
 
 pub decode-into-spec : {M : Type 1} → statement M
 decode-into-spec =

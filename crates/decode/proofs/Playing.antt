@@ -1,0 +1,46 @@
+-- The G.711 end in the loop that decodes: what `decode_byte` answers is what the end puts out and counts, and its memory is the run's.
+use mathlib.Core.List.{List}
+use mathlib.Core.Path.{_≡_, refl}
+use Prim.Native.Nat.{ℕ, _+_, _^_, _≤_, _<_}
+use native.Mathlib.Omega.{arith}
+use lib.Dec.{eqb}
+use lib.ListN.{length, getD, set}
+use Rattle.words.proofs.Pick.{pick-le}
+use Rattle.quantizer.specs.Pair.{Pair}
+use Rattle.state.specs.declared.memory.Memory.{Memory}
+use Rattle.state.specs.declared.State.{State}
+use Rattle.sample.specs.declared.pcm.Played.{Played}
+use Rattle.sample.specs.Decode.{decodeOf, decoderNext}
+use Rattle.sample.specs.Pcm.{SP, byte, moved, playOf, byteOf, movedOf}
+use Rattle.decode.specs.Codewords.{decodedMemory, decodedState}
+use Rattle.decode.specs.Decode.{decodedBytes, decodedMoved}
+use Rattle.decode.specs.Inner.{DecodesAll}
+use Rattle.decode.proofs.Decoding.{Decoding, decoding-more, decoding-done}
+
+pub moved-bit : (LAW core width : ℕ) (m : Memory) (I : ℕ) → playOf LAW core width m I .moved ≤ 1
+unfolding playOf moved
+moved-bit LAW core width m I =
+    let d = decodeOf core width m I in
+    pick-le (eqb (byte LAW width I d) (SP LAW width I d)) {a = 0} {b = 1} {n = 1} (omega arith) (omega arith)
+
+-- the end plays what the step has decoded
+moves-on : (LAW core width : ℕ) (t : Memory) (I : ℕ) → playOf LAW core width t I .memory ≡ decoderNext core width t I
+unfolding playOf
+moves-on LAW core width t I = refl
+
+module _ (LAW : ℕ) (s : State) (width : ℕ) (cws before : List ℕ) where
+  abbrev pub Playing : ℕ → Memory → ℕ → List ℕ → Type 0
+  Playing = Decoding (s .core) width (byteOf LAW (s .core) width) (movedOf LAW (s .core) width) (s .memory) cws before
+
+  pub playing-more : {k : ℕ} {t : Memory} {sum : ℕ} {out : List ℕ} {p : Played} → Playing k t sum out → k < length cws → Pair width (s .core)
+      → getD cws k 0 < 2 ^ width → p ≡ playOf LAW (s .core) width t (getD cws k 0) → Playing (k + 1) (p .memory) (sum + p .moved) (set out k (p .byte))
+  playing-more {k} {t} c more pair short is =
+      rw (is, moves-on LAW (s .core) width t (getD cws k 0))
+      (decoding-more _ _ _ _ _ _ _ 0 c more pair short (moved-bit LAW (s .core) width t (getD cws k 0)))
+
+  pub playing-done : {k : ℕ} {t : Memory} {sum : ℕ} {out : List ℕ} → Playing k t sum out → length cws ≤ k
+      → DecodesAll LAW s width cws before out (record { moved = sum; state = record { memory = t; core = s .core } })
+  unfolding decodedState decodedMemory decodedBytes decodedMoved
+  playing-done c all =
+      let d = decoding-done _ _ _ _ _ _ _ c all in
+      record { state = rw (d .memory); moved = d .sum-is; out = d .out-is }
