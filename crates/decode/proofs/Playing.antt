@@ -9,6 +9,7 @@ use Rattle.words.proofs.Pick.{pick-le}
 use Rattle.quantizer.specs.Pair.{Pair}
 use Rattle.state.specs.declared.memory.Memory.{Memory}
 use Rattle.state.specs.declared.State.{State}
+use Rattle.state.specs.Moved.{movedOn}
 use Rattle.sample.specs.declared.pcm.Played.{Played}
 use Rattle.sample.specs.Decode.{decodeOf, decoderNext}
 use Rattle.sample.specs.Pcm.{SP, byte, moved, playOf, byteOf, movedOf}
@@ -39,7 +40,7 @@ module _ (LAW : ℕ) (s : State) (width : ℕ) (cws before : List ℕ) where
       (decoding-more _ _ _ _ _ _ _ 0 c more pair short (moved-bit LAW (s .core) width t (getD cws k 0)))
 
   pub playing-done : {k : ℕ} {t : Memory} {sum : ℕ} {out : List ℕ} → Playing k t sum out → length cws ≤ k
-      → DecodesAll LAW s width cws before out (record { moved = sum; state = record { memory = t; core = s .core } })
+      → DecodesAll LAW s width cws before out (record { moved = sum; state = movedOn s t })
   unfolding decodedState decodedMemory decodedBytes decodedMoved
   playing-done c all =
       let d = decoding-done _ _ _ _ _ _ _ c all in

@@ -21,6 +21,7 @@ use replies::is_law;
 use sample::pcm::decode_byte;
 use state::State;
 use state::in_range;
+use state::moved_on;
 
 pub struct DecodeAnswer {
     pub reply: Reply,
@@ -105,9 +106,8 @@ fn decode_into(s: State, law: u8, h: Header, planes: &[u8], out: &mut [u8]) -> D
         memory = next;
         k += 1;
     }
-    let state = State {
-        memory,
-        core: s.core,
-    };
-    DecodedFrame { moved, state }
+    DecodedFrame {
+        moved,
+        state: moved_on(s, memory),
+    }
 }

@@ -1,12 +1,13 @@
 -- What encoding gives of a list of levels, whichever end they come from.
 -- It is the run of the sample's step over them, from the state's memory, and the frame of the codewords that the run puts out.
--- The core goes through unchanged.
+-- Of the state the memory alone moves on.
 use mathlib.Core.List.{List}
 use Prim.Native.Nat.{ℕ, _/_}
 use lib.ListN.{length}
 use Rattle.lists.specs.Run.{last, outs}
 use Rattle.state.specs.declared.memory.Memory.{Memory}
 use Rattle.state.specs.declared.State.{State}
+use Rattle.state.specs.Moved.{movedOn}
 use Rattle.sample.specs.Encode.{encoderNext, codewordOf}
 use Rattle.frame.specs.declared.header.Header.{Header}
 use Rattle.frame.specs.Header.{edition, group}
@@ -25,7 +26,7 @@ module _ (core width : ℕ) (m : Memory) (levels : List ℕ) where
 
 module _ (s : State) (width : ℕ) (levels : List ℕ) where
   unfoldable pub encodedState : State
-  encodedState = record { memory = encodedMemory (s .core) width (s .memory) levels; core = s .core }
+  encodedState = movedOn s (encodedMemory (s .core) width (s .memory) levels)
 
   unfoldable pub encodedFrame : List ℕ
   encodedFrame = frameOf (encodedHeader (s .core) width (length levels)) (encodedCodewords (s .core) width (s .memory) levels)

@@ -25,6 +25,7 @@ use sample::level::encode_level;
 use state::State;
 use state::in_range;
 use state::memory::Memory;
+use state::moved_on;
 
 pub struct EncodeAnswer {
     pub reply: Reply,
@@ -118,10 +119,7 @@ fn encode_levels(s: State, h: Header, levels: &[u16], out: &mut [u8]) -> State
     let memory = encode_all(from, s.core, h.width, levels, &mut codewords);
     let n = levels.len();
     write_frame(&codewords[..n], h, out);
-    State {
-        memory,
-        core: s.core,
-    }
+    moved_on(s, memory)
 }
 
 // The codewords of all levels, one to an octet

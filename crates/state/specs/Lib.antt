@@ -2,4 +2,5 @@ pub mod Reset
 pub mod Range
 pub mod InRange
 pub mod Words
+pub mod Moved
 pub mod Numbers

@@ -1,4 +1,4 @@
--- The 25 numbers of a state, in the order of the rules' table (docs/RULES.md, "The state"), a row's variables as it names them; and whether two
+-- The numbers of a state, in the order of the rules' table (docs/RULES.md, "The state"), a row's variables as it names them; and whether two
 -- states have the same ones.
 use mathlib.Core.Bool.{Bool, true, false, _&&_}
 use mathlib.Core.List.{List, [], _∷_}
@@ -6,6 +6,10 @@ use Prim.Native.Nat.{ℕ}
 use lib.Dec.{eqb}
 use lib.ListN.{getD}
 use Rattle.state.specs.declared.State.{State}
+
+-- how many there are
+abbrev pub count : ℕ
+count = 25
 
 unfoldable pub numbersOf : State → List ℕ
 numbersOf s =

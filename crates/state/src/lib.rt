@@ -5,6 +5,7 @@ pub mod numbers;
 
 ghost use mathlib.Core.Path.{_≡_};
 ghost use Rattle.state.specs.Reset.{resetOf};
+ghost use Rattle.state.specs.Moved.{movedOn};
 ghost use Rattle.state.specs.Range.{inRange};
 use crate::memory::Memory;
 use crate::memory::memory_in_range;
@@ -23,6 +24,13 @@ pub fn reset(core: u8) -> State
         memory: reset_memory(),
         core,
     }
+}
+
+// The state whose memory a run has moved on; all else of it stays.
+pub fn moved_on(s: State, memory: Memory) -> State
+    ensures { λ r. ⌜ r ≡ movedOn s memory ⌝ }
+{
+    State { memory, ..s }
 }
 
 // The rules' table of ranges, its last row too

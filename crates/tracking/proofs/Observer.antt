@@ -9,6 +9,7 @@ use borrow.Author.Tests.{eq-eqb}
 use Rattle.lists.specs.Run.{last}
 use Rattle.state.specs.declared.memory.Memory.{Memory}
 use Rattle.state.specs.declared.State.{State}
+use Rattle.state.specs.Moved.{movedOn}
 use Rattle.sample.specs.Decode.{decoderNext}
 use Rattle.sample.proofs.Cores.{core-of-thinned}
 use Rattle.sample.proofs.Tracks.{decode-by-core}
@@ -44,7 +45,7 @@ decoded-by-core-planes s frame sound core =
     let h = headerOf frame in
     let narrow = sound .header .pair .widths .low in
     let small : h .core < 8 = omega (arith, sound .header .pair .cores .high) in
-    rw (received-thinned frame narrow, thinned-header small frame, core) (λ i. record { memory = by-core (s .core) (h .width) (s .memory) (rw core at narrow) (received frame) i; core = s .core })
+    rw (received-thinned frame narrow, thinned-header small frame, core) (ap (movedOn s) (by-core (s .core) (h .width) (s .memory) (rw core at narrow) (received frame)))
 
 -- two frames with the same core planes
 pub same-core-planes : (s : State) (f f′ : List ℕ) → Sound (headerOf f) (length f) → Sound (headerOf f′) (length f′)

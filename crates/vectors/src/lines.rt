@@ -8,7 +8,9 @@ use checksum::of_state;
 use libc::STDOUT_FILENO;
 use sample::pcm::Played;
 use state::State;
+use state::moved_on;
 use state::numbers::same_state;
+use state::reset;
 use text::Line;
 
 // Where a sample stands in a sequence, the octet that the encoder was given, and whether the sample is dumped
@@ -45,7 +47,7 @@ fn summed(line: Line, kind: Kind, core: u8, t: Track) -> Line {
 // An I-input and the held codeword have no encoder beside the decoder
 fn do_ends_differ(kind: Kind, core: u8, t: Track) -> bool {
     let memory = t.encoder;
-    let encoder = State { memory, core };
+    let encoder = moved_on(reset(core), memory);
     match kind {
         Kind::Normal | Kind::Overload | Kind::Jump => !same_state(encoder, decoder_of(core, t)),
         Kind::Codewords | Kind::Held => false,
@@ -54,7 +56,7 @@ fn do_ends_differ(kind: Kind, core: u8, t: Track) -> bool {
 
 fn decoder_of(core: u8, t: Track) -> State {
     let memory = t.decoder;
-    State { memory, core }
+    moved_on(reset(core), memory)
 }
 
 pub fn write_sample(note: Note, core: u8, codeword: u8, p: Played) {
@@ -81,5 +83,5 @@ fn answered(line: Line, core: u8, codeword: u8, p: Played) -> Line {
     line.next(codeword as u64)
         .next(byte)
         .next(moved)
-        .next(of_state(State { memory, core }) as u64)
+        .next(of_state(moved_on(reset(core), memory)) as u64)
 }

@@ -1,6 +1,7 @@
 -- `answers::states::is_state` is safe and ends. Nothing has to hold from turn to turn. The measure is what is left of the numbers.
 use Prim.Native.Nat.{_-_}
 use native.Mathlib.Omega.{arith}
+use Rattle.state.specs.Numbers.{count}
 use Rattle.answers.proofs.states.is_state.Statement.{statement}
 use Rattle.answers.proofs.states.is_state.Tie as tie
 
@@ -8,7 +9,7 @@ abbrev Inv-loop : tie.InvT-loop
 Inv-loop field k₀ k = Unit {0}
 
 abbrev μ-loop : tie.MeasureT-loop
-μ-loop field k₀ k = 25 - k
+μ-loop field k₀ k = count - k
 
 loop-holds : tie.Need-loop-holds Inv-loop μ-loop
 loop-holds c = tt

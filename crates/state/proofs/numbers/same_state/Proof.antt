@@ -4,7 +4,7 @@ use mathlib.Core.Path.{sym}
 use Prim.Native.Nat.{_-_, _<_}
 use native.Mathlib.Omega.{arith}
 use lib.ListN.{length}
-use Rattle.state.specs.Numbers.{numbersOf}
+use Rattle.state.specs.Numbers.{count, numbersOf}
 use Rattle.state.proofs.Comparing.{Comparing, comparing-none, comparing-more, comparing-differs, comparing-done}
 use Rattle.state.proofs.numbers.same_state.Statement.{statement}
 use Rattle.state.proofs.numbers.same_state.Tie as tie
@@ -13,7 +13,7 @@ abbrev Inv-loop : tie.InvT-loop
 Inv-loop these those i₀ i = Comparing these those i
 
 abbrev μ-loop : tie.MeasureT-loop
-μ-loop these those i₀ i = 25 - i
+μ-loop these those i₀ i = count - i
 
 -- both lists, as far as they are compared, have a number at each place
 within : (c : tie.In-loop Inv-loop μ-loop) → (c .before .loop .i < length (c .before .before .before .numbers .result)) × (c .before .loop .i < length (c .before .before .numbers2 .result))

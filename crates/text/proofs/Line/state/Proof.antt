@@ -2,14 +2,15 @@
 use borrow.Author.Needs.{needs}
 use Prim.Native.Nat.{_-_, _≤_}
 use native.Mathlib.Omega.{arith}
+use Rattle.state.specs.Numbers.{count}
 use Rattle.text.proofs.Line.state.Statement.{statement}
 use Rattle.text.proofs.Line.state.Tie as tie
 
 abbrev Inv-loop : tie.InvT-loop
-Inv-loop first mark values line₀ i₀ line i = i ≤ 25
+Inv-loop first mark values line₀ i₀ line i = i ≤ count
 
 abbrev μ-loop : tie.MeasureT-loop
-μ-loop first mark values line₀ i₀ line i = 25 - i
+μ-loop first mark values line₀ i₀ line i = count - i
 
 pub state-spec : {M : Type 1} → statement M
 state-spec =
