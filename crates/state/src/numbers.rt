@@ -13,38 +13,44 @@ pub fn numbers(s: State) -> [u32; NUMBERS]
     let b = m.b;
     let dq = m.dq;
     [
-        wide(m.yu),
+        of_word(m.yu),
         m.yl,
-        wide(m.dms),
-        wide(m.dml),
-        wide(m.ap),
-        wide(m.a1),
-        wide(m.a2),
-        wide(b[0]),
-        wide(b[1]),
-        wide(b[2]),
-        wide(b[3]),
-        wide(b[4]),
-        wide(b[5]),
-        wide(dq[0]),
-        wide(dq[1]),
-        wide(dq[2]),
-        wide(dq[3]),
-        wide(dq[4]),
-        wide(dq[5]),
-        wide(m.sr1),
-        wide(m.sr2),
-        wide(m.pk1),
-        wide(m.pk2),
-        wide(m.td),
-        s.core as u32,
+        of_word(m.dms),
+        of_word(m.dml),
+        of_word(m.ap),
+        of_word(m.a1),
+        of_word(m.a2),
+        of_word(b[0]),
+        of_word(b[1]),
+        of_word(b[2]),
+        of_word(b[3]),
+        of_word(b[4]),
+        of_word(b[5]),
+        of_word(dq[0]),
+        of_word(dq[1]),
+        of_word(dq[2]),
+        of_word(dq[3]),
+        of_word(dq[4]),
+        of_word(dq[5]),
+        of_word(m.sr1),
+        of_word(m.sr2),
+        of_word(m.pk1),
+        of_word(m.pk2),
+        of_word(m.td),
+        of_octet(s.core),
     ]
 }
 
-fn wide(w: u16) -> u32
+fn of_word(w: u16) -> u32
     ensures { λ r. ⌜ r ≡ w ⌝ }
 {
     w as u32
+}
+
+fn of_octet(o: u8) -> u32
+    ensures { λ r. ⌜ r ≡ o ⌝ }
+{
+    o as u32
 }
 
 pub fn same_state(s: State, t: State) -> bool

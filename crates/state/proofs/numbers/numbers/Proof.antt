@@ -15,31 +15,31 @@ returns c =
     let adaptation = zeros .before .before .before .before .before .before in
     let s = adaptation .before .before .before .before .before .before .before .before .before .args .s in
     λ i.
-    adaptation .before .before .before .before .before .wide .ensures i ∷
+    adaptation .before .before .before .before .before .of-word .ensures i ∷
     s .memory .yl ∷
-    adaptation .before .before .before .before .wide2 .ensures i ∷
-    adaptation .before .before .before .wide3 .ensures i ∷
-    adaptation .before .before .wide4 .ensures i ∷
-    adaptation .before .wide5 .ensures i ∷
-    adaptation .wide6 .ensures i ∷
-    zeros .before .before .before .before .before .wide7 .ensures i ∷
-    zeros .before .before .before .before .wide8 .ensures i ∷
-    zeros .before .before .before .wide9 .ensures i ∷
-    zeros .before .before .wide10 .ensures i ∷
-    zeros .before .wide11 .ensures i ∷
-    zeros .wide12 .ensures i ∷
-    differences .before .before .before .before .before .wide13 .ensures i ∷
-    differences .before .before .before .before .wide14 .ensures i ∷
-    differences .before .before .before .wide15 .ensures i ∷
-    differences .before .before .wide16 .ensures i ∷
-    differences .before .wide17 .ensures i ∷
-    differences .wide18 .ensures i ∷
-    signals .before .before .before .before .wide19 .ensures i ∷
-    signals .before .before .before .wide20 .ensures i ∷
-    signals .before .before .wide21 .ensures i ∷
-    signals .before .wide22 .ensures i ∷
-    signals .wide23 .ensures i ∷
-    s .core ∷
+    adaptation .before .before .before .before .of-word2 .ensures i ∷
+    adaptation .before .before .before .of-word3 .ensures i ∷
+    adaptation .before .before .of-word4 .ensures i ∷
+    adaptation .before .of-word5 .ensures i ∷
+    adaptation .of-word6 .ensures i ∷
+    zeros .before .before .before .before .before .of-word7 .ensures i ∷
+    zeros .before .before .before .before .of-word8 .ensures i ∷
+    zeros .before .before .before .of-word9 .ensures i ∷
+    zeros .before .before .of-word10 .ensures i ∷
+    zeros .before .of-word11 .ensures i ∷
+    zeros .of-word12 .ensures i ∷
+    differences .before .before .before .before .before .of-word13 .ensures i ∷
+    differences .before .before .before .before .of-word14 .ensures i ∷
+    differences .before .before .before .of-word15 .ensures i ∷
+    differences .before .before .of-word16 .ensures i ∷
+    differences .before .of-word17 .ensures i ∷
+    differences .of-word18 .ensures i ∷
+    signals .before .before .before .before .of-word19 .ensures i ∷
+    signals .before .before .before .of-word20 .ensures i ∷
+    signals .before .before .of-word21 .ensures i ∷
+    signals .before .of-word22 .ensures i ∷
+    signals .of-word23 .ensures i ∷
+    c .of-octet .ensures i ∷
     []
 
 pub numbers-spec : {M : Type 1} → statement M
