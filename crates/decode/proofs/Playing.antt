@@ -29,17 +29,18 @@ moves-on : (LAW core width : ℕ) (t : Memory) (I : ℕ) → playOf LAW core wid
 unfolding playOf
 moves-on LAW core width t I = refl
 
-module _ (LAW : ℕ) (s : State) (width : ℕ) (cws before : List ℕ) where
+module _ (LAW core width : ℕ) (m : Memory) (cws before : List ℕ) where
   abbrev pub Playing : ℕ → Memory → ℕ → List ℕ → Type 0
-  Playing = Decoding (s .core) width (byteOf LAW (s .core) width) (movedOf LAW (s .core) width) (s .memory) cws before
+  Playing = Decoding core width (byteOf LAW core width) (movedOf LAW core width) m cws before
 
-  pub playing-more : {k : ℕ} {t : Memory} {sum : ℕ} {out : List ℕ} {p : Played} → Playing k t sum out → k < length cws → Pair width (s .core)
-      → getD cws k 0 < 2 ^ width → p ≡ playOf LAW (s .core) width t (getD cws k 0) → Playing (k + 1) (p .memory) (sum + p .moved) (set out k (p .byte))
+  pub playing-more : {k : ℕ} {t : Memory} {sum : ℕ} {out : List ℕ} {p : Played} → Playing k t sum out → k < length cws → Pair width core
+      → getD cws k 0 < 2 ^ width → p ≡ playOf LAW core width t (getD cws k 0) → Playing (k + 1) (p .memory) (sum + p .moved) (set out k (p .byte))
   playing-more {k} {t} c more pair short is =
-      rw (is, moves-on LAW (s .core) width t (getD cws k 0))
-      (decoding-more _ _ _ _ _ _ _ 0 c more pair short (moved-bit LAW (s .core) width t (getD cws k 0)))
+      rw (is, moves-on LAW core width t (getD cws k 0))
+      (decoding-more _ _ _ _ _ _ _ 0 c more pair short (moved-bit LAW core width t (getD cws k 0)))
 
-  pub playing-done : {k : ℕ} {t : Memory} {sum : ℕ} {out : List ℕ} → Playing k t sum out → length cws ≤ k
+module _ (LAW : ℕ) (s : State) (width : ℕ) (cws before : List ℕ) where
+  pub playing-done : {k : ℕ} {t : Memory} {sum : ℕ} {out : List ℕ} → Playing LAW (s .core) width (s .memory) cws before k t sum out → length cws ≤ k
       → DecodesAll LAW s width cws before out (record { moved = sum; state = movedOn s t })
   unfolding decodedState decodedMemory decodedBytes decodedMoved
   playing-done c all =

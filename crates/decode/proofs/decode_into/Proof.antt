@@ -16,7 +16,7 @@ use Rattle.decode.proofs.decode_into.Statement.{statement}
 use Rattle.decode.proofs.decode_into.Tie as tie
 
 abbrev Inv-loop : tie.InvT-loop
-Inv-loop s law h planes out₀ n g memory₀ moved₀ k₀ out memory moved k = Playing law s (h .width) (codewords (h .width) (h .groups) planes) out₀ k memory moved out
+Inv-loop s law h planes out₀ n g memory₀ moved₀ k₀ out memory moved k = Playing law (s .core) (h .width) (s .memory) (codewords (h .width) (h .groups) planes) out₀ k memory moved out
 
 abbrev μ-loop : tie.MeasureT-loop
 μ-loop s law h planes out₀ n g memory₀ moved₀ k₀ out memory moved k = n - k
@@ -83,7 +83,7 @@ loop-again c =
     let at = c .before .before .before .before .before .before .before .before .before .before .before in
     let here = c .before .before .before .before in
     let short = read-short (at .args .h .width) (at .args .h .groups) (now (at .args .planes)) (c .before .before .before .before .before .loop .k) (more here) in
-    playing-more _ _ _ _ _ (here .before .loop .inv) (within here) (pair at) short (c .before .before .decode-byte .ensures ∙ rw (codeword-is (c .before .before .before)))
+    playing-more _ _ _ _ _ _ (here .before .loop .inv) (within here) (pair at) short (c .before .before .decode-byte .ensures ∙ rw (codeword-is (c .before .before .before)))
 
 same-length : tie.Need-same-length Inv-loop μ-loop
 same-length c = c .before .before .loop .inv .filled .size
