@@ -12,17 +12,19 @@ use Rattle.state.specs.declared.State.{State}
 use Rattle.state.specs.Moved.{movedOn}
 use Rattle.sample.specs.declared.pcm.Played.{Played}
 use Rattle.sample.specs.Decode.{decodeOf, decoderNext}
-use Rattle.sample.specs.Pcm.{SP, byte, moved, playOf, byteOf, movedOf}
+use Rattle.g711.specs.Compress.{COMPRESS}
+use Rattle.sample.specs.Pcm.{SD, playOf, byteOf, movedOf}
 use Rattle.decode.specs.Codewords.{decodedMemory, decodedState}
 use Rattle.decode.specs.Decode.{decodedBytes, decodedMoved}
 use Rattle.decode.specs.Inner.{DecodesAll}
 use Rattle.decode.proofs.Decoding.{Decoding, decoding-more, decoding-done}
 
 pub moved-bit : (LAW core width : ℕ) (m : Memory) (I : ℕ) → playOf LAW core width m I .moved ≤ 1
-unfolding playOf moved
+unfolding playOf
 moved-bit LAW core width m I =
     let d = decodeOf core width m I in
-    pick-le (eqb (byte LAW width I d) (SP LAW width I d)) {a = 0} {b = 1} {n = 1} (omega arith) (omega arith)
+    let sp = COMPRESS (d .sr) LAW in
+    pick-le (eqb (SD LAW width (d .y) (d .se) I sp) sp) {a = 0} {b = 1} {n = 1} (omega arith) (omega arith)
 
 -- the end plays what the step has decoded
 moves-on : (LAW core width : ℕ) (t : Memory) (I : ℕ) → playOf LAW core width t I .memory ≡ decoderNext core width t I

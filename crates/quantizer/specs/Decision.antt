@@ -2,7 +2,7 @@
 use mathlib.Core.List.{List, [], _∷_}
 use Prim.Native.Nat.{ℕ}
 use lib.Dec.{eqb}
-use Rattle.words.specs.Notation.{pick}
+use Rattle.words.specs.Notation.{_when_∣_}
 use Rattle.quantizer.specs.Table.{Range, row, find}
 
 -- Table 8/G.727: 16 kbit/s
@@ -95,7 +95,7 @@ table11 =
 
 -- the table of a width, which is 2, 3, 4 or 5
 unfoldable pub decisions : ℕ → List Range
-decisions width = pick (eqb width 2) table8 (pick (eqb width 3) table9 (pick (eqb width 4) table10 table11))
+decisions width = table8 when eqb width 2 ∣ table9 when eqb width 3 ∣ table10 when eqb width 4 ∣ table11
 
 -- "Quantize difference signal in logarithmic domain": I
 unfoldable pub QUAN : ℕ → ℕ → ℕ → ℕ

@@ -2,7 +2,7 @@
 use mathlib.Core.List.{List, [], _∷_}
 use Prim.Native.Nat.{ℕ, _-_}
 use lib.Dec.{eqb}
-use Rattle.words.specs.Notation.{pick, _>>_}
+use Rattle.words.specs.Notation.{_when_∣_, _>>_}
 use Rattle.quantizer.specs.declared.Quantized.{Quantized}
 use Rattle.quantizer.specs.Table.{Level, level, output}
 
@@ -88,7 +88,7 @@ table15 =
 
 -- the table of a width, which is 2, 3, 4 or 5
 unfoldable pub outputs : ℕ → List Level
-outputs width = pick (eqb width 2) table12 (pick (eqb width 3) table13 (pick (eqb width 4) table14 table15))
+outputs width = table12 when eqb width 2 ∣ table13 when eqb width 3 ∣ table14 when eqb width 4 ∣ table15
 
 -- "Reconstruction of quantized difference signal in the logarithmic domain": DQS = I >> (width - 1), and DQLN.
 -- The width is the core's on the feedback path and the received codeword's on the output path

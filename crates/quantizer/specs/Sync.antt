@@ -3,14 +3,14 @@
 use mathlib.Core.List.{List, [], _∷_}
 use Prim.Native.Nat.{ℕ, _+_, _-_, _^_, _%_}
 use lib.Dec.{eqb}
-use Rattle.words.specs.Notation.{pick, _>>_}
+use Rattle.words.specs.Notation.{_when_∣_, _>>_}
 use Rattle.quantizer.specs.Table.{Range, row, find}
 
 -- IM: I + 2, 4, 8 or 16 where the sign IS is 0, else I & 1, 3, 7 or 15
 unfoldable pub IM : ℕ → ℕ → ℕ
 IM width I =
     let IS = I >> (width - 1) in
-    pick (eqb IS 0) (I + 2 ^ (width - 1)) (I % 2 ^ (width - 1))
+    I + 2 ^ (width - 1) when eqb IS 0 ∣ I % 2 ^ (width - 1)
 
 -- Table 17/G.727: ID for E + C = 2
 unfoldable pub table17 : List Range
@@ -102,7 +102,7 @@ table20 =
 
 -- the table of a width, which is 2, 3, 4 or 5
 unfoldable pub places : ℕ → List Range
-places width = pick (eqb width 2) table17 (pick (eqb width 3) table18 (pick (eqb width 4) table19 table20))
+places width = table17 when eqb width 2 ∣ table18 when eqb width 3 ∣ table19 when eqb width 4 ∣ table20
 
 unfoldable pub ID : ℕ → ℕ → ℕ → ℕ
 ID width DLNX DSX = find (places width) DSX DLNX

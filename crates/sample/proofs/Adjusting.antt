@@ -11,7 +11,7 @@ use Rattle.quantizer.proofs.Coding.{codeword-range, codeword-place}
 use Rattle.sample.specs.Pcm.{moveOf, SYNC, DX, requantized, SD}
 
 module _ (LAW width Y SE SP : ℕ) (w : Width width) where
-  dx-word : DX LAW width Y SE SP < 65536
+  dx-word : DX LAW SE SP < 65536
   unfolding DX
   dx-word = subta-word (EXPAND SP LAW) SE
 

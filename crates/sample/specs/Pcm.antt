@@ -11,7 +11,6 @@ use Rattle.logarithm.specs.Logarithm.{LOG, SUBTB}
 use Rattle.quantizer.specs.Adaptive.{codeword}
 use Rattle.quantizer.specs.Sync.{IM, ID}
 use Rattle.state.specs.declared.memory.Memory.{Memory}
-use Rattle.sample.specs.declared.level.Decoded.{Decoded}
 use Rattle.sample.specs.declared.pcm.Played.{Played}
 use Rattle.sample.specs.Decode.{decodeOf}
 
@@ -23,33 +22,26 @@ moveOf ID IM SP LAW = above SP LAW when ltb ID IM ∣ SP when eqb ID IM ∣ belo
 unfoldable pub SYNC : ℕ → ℕ → ℕ → ℕ → ℕ → ℕ → ℕ
 SYNC width I SP DLNX DSX LAW = moveOf (ID width DLNX DSX) (IM width I) SP LAW
 
-module _ (LAW width Y SE : ℕ) where
-  -- DX of a byte, and the codeword that the byte requantizes to
-  unfoldable pub DX : ℕ → ℕ
-  DX SP = SUBTA (EXPAND SP LAW) SE
+-- DX of a byte: EXPAND gives SLX, and SUBTA takes the estimate away
+unfoldable pub DX : ℕ → ℕ → ℕ → ℕ
+DX LAW SE SP = SUBTA (EXPAND SP LAW) SE
 
+module _ (LAW width Y SE : ℕ) where
+  -- the codeword that a byte requantizes to
   unfoldable pub requantized : ℕ → ℕ
-  requantized SP = codeword width Y (DX SP)
+  requantized SP = codeword width Y (DX LAW SE SP)
 
   unfoldable pub SD : ℕ → ℕ → ℕ
-  SD I SP = SYNC width I SP (SUBTB (LOG (DX SP) .dl) Y) (LOG (DX SP) .ds) LAW
-
-module _ (LAW width I : ℕ) (d : Decoded) where
-  unfoldable pub SP : ℕ
-  SP = COMPRESS (d .sr) LAW
-
-  unfoldable pub byte : ℕ
-  byte = SD LAW width (d .y) (d .se) I SP
-
-  -- 1 where the final byte differs from the one that COMPRESS gave
-  unfoldable pub moved : ℕ
-  moved = 0 when eqb byte SP ∣ 1
+  SD I SP = SYNC width I SP (SUBTB (LOG (DX LAW SE SP) .dl) Y) (LOG (DX LAW SE SP) .ds) LAW
 
 module _ (LAW core width : ℕ) where
+  -- a codeword played: the final byte, 1 where it differs from the one that COMPRESS gave, and the next memory
   unfoldable pub playOf : Memory → ℕ → Played
   playOf m I =
       let d = decodeOf core width m I in
-      record { byte = byte LAW width I d; moved = moved LAW width I d; memory = d .memory }
+      let sp = COMPRESS (d .sr) LAW in
+      let sd = SD LAW width (d .y) (d .se) I sp in
+      record { byte = sd; moved = 0 when eqb sd sp ∣ 1; memory = d .memory }
 
   -- as a step of a run: what is put out, and what is counted
   abbrev pub byteOf : Memory → ℕ → ℕ

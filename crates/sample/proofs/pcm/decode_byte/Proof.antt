@@ -3,7 +3,7 @@ use borrow.Author.Needs.{needs}
 use mathlib.Core.Path.{_≡_}
 use Rattle.engine.proofs.Estimates.{y-range, se-word}
 use Rattle.sample.specs.Decode.{decodeOf}
-use Rattle.sample.specs.Pcm.{SP, byte, moved, playOf}
+use Rattle.sample.specs.Pcm.{playOf}
 use Rattle.sample.proofs.pcm.decode_byte.Statement.{statement}
 use Rattle.sample.proofs.pcm.decode_byte.Tie as tie
 
@@ -14,7 +14,7 @@ adjusted-requires c κs =
     rw (c .before .decode-level .ensures) (y-range (at .args .m) (at .pre .0), se-word (at .args .m), at .pre .2)
 
 returns : tie.Need-returns
-unfolding playOf byte moved SP
+unfolding playOf
 returns c =
     let called = c .before .before .before in
     rw (c .differs .ensures, c .before .before .adjusted .ensures, called .compress .ensures, called .before .decode-level .ensures)
