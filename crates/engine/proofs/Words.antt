@@ -3,7 +3,7 @@ use mathlib.Core.Path.{refl}
 use Prim.Native.Nat.{ℕ, _<_}
 use Rattle.predictor.proofs.Range.{limc-range, limd-range, trigb-range, upa1-range, upa2-range, upb-range}
 use Rattle.state.specs.declared.memory.Memory.{Memory}
-use Rattle.state.specs.Words.{SixWords, Words}
+use Rattle.state.specs.Words.{Words}
 use Rattle.engine.specs.Prediction.{polesOf, zeroOf, zerosOf}
 use Rattle.engine.specs.Advance.{advanceOf}
 

@@ -1,7 +1,7 @@
 // The two calls of the engine. `estimate` is asked before a codeword is known; `advance` takes what it answered, which
 // the memory alone fixes, so that the predictor's products are formed once a sample.
 ghost use mathlib.Core.Path.{_≡_};
-ghost use Prim.Native.Nat.{_≤_, _<_};
+ghost use Prim.Native.Nat.{_≤_};
 ghost use Rattle.state.specs.InRange.{MemoryInRange};
 ghost use Rattle.engine.specs.Estimate.{estimateOf};
 ghost use Rattle.engine.specs.Advance.{advanceOf};

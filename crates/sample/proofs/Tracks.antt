@@ -33,15 +33,15 @@ pub decode-by-core : (core : ℕ) (m : Memory) (w v J K : ℕ) → Ic core w J �
 unfolding decodeOf
 decode-by-core core m w v J K e = ap (stepOf core m) e
 
-d-word : (width : ℕ) (m : Memory) (SL : ℕ) → D width m SL < 65536
+d-word : (m : Memory) (SL : ℕ) → D m SL < 65536
 unfolding D
-d-word width m SL = subta-word SL (SE m)
+d-word m SL = subta-word SL (SE m)
 
 module _ (core : ℕ) (m : Memory) (v w SL : ℕ) (pv : Pair v core) (pw : Pair w core) (narrow : v ≤ w) where
   -- encoding at a narrower width gives the thinned codeword
   pub encode-thinned : encodeOf core v m SL .codeword ≡ encodeOf core w m SL .codeword >> (w - v)
-  unfolding encodeOf I D
-  encode-thinned = codeword-thinned (Y m) (subta-word SL (SE m)) (pair-width pv) (pair-width pw) narrow
+  unfolding encodeOf I
+  encode-thinned = codeword-thinned (Y m) (d-word m SL) (pair-width pv) (pair-width pw) narrow
 
   -- and the same next memory
   pub encode-same-memory : encodeOf core v m SL .memory ≡ encodeOf core w m SL .memory
@@ -57,7 +57,7 @@ module _ {core w : ℕ} (m : Memory) (p : Pair w core) where
   -- a codeword of width x is below 2 ^ x
   pub encode-codeword : (SL : ℕ) → Codeword w (encodeOf core w m SL .codeword)
   unfolding encodeOf I
-  encode-codeword SL = codeword-range (Y m) (d-word w m SL) (pair-width p)
+  encode-codeword SL = codeword-range (Y m) (d-word m SL) (pair-width p)
 
   -- a step from a memory in range ends in range
   pub decode-in-range : MemoryInRange m → (J : ℕ) → J < 2 ^ w → MemoryInRange (decodeOf core w m J .memory)
@@ -66,4 +66,4 @@ module _ {core w : ℕ} (m : Memory) (p : Pair w core) where
 
   pub encode-in-range : MemoryInRange m → (SL : ℕ) → MemoryInRange (encodeOf core w m SL .memory)
   unfolding encodeOf I
-  encode-in-range i SL = step-in-range core m i (core-codeword p (codeword-range (Y m) (d-word w m SL) (pair-width p) .short))
+  encode-in-range i SL = step-in-range core m i (core-codeword p (codeword-range (Y m) (d-word m SL) (pair-width p) .short))

@@ -8,12 +8,11 @@ use Rattle.engine.specs.Estimate.{Y, SE}
 use Rattle.sample.specs.declared.level.Encoded.{Encoded}
 use Rattle.sample.specs.Core.{Ic, stepOf}
 
-module _ (width : ℕ) (m : Memory) (SL : ℕ) where
-  unfoldable pub D : ℕ
-  D = SUBTA SL (SE m)
+unfoldable pub D : Memory → ℕ → ℕ
+D m SL = SUBTA SL (SE m)
 
-  unfoldable pub I : ℕ
-  I = codeword width (Y m) D
+unfoldable pub I : ℕ → Memory → ℕ → ℕ
+I width m SL = codeword width (Y m) (D m SL)
 
 module _ (core width : ℕ) where
   unfoldable pub encodeOf : Memory → ℕ → Encoded

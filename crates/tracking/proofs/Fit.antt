@@ -14,7 +14,7 @@ use Rattle.frame.specs.Read.{thinned}
 use Rattle.frame.specs.Sound.{Sound}
 use Rattle.frame.proofs.Headers.{thinned-header}
 use Rattle.frame.proofs.Kept.{thinned-sound}
-use Rattle.encode.specs.Levels.{encodedHeader, encodedFrame, encodedMemory, encodedState}
+use Rattle.encode.specs.Levels.{encodedFrame, encodedMemory, encodedState}
 use Rattle.encode.specs.Encode.{encodeReply}
 use Rattle.encode.specs.Inner.{Encodable}
 use Rattle.encode.proofs.Fitness.{encode-of}

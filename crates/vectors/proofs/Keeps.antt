@@ -1,5 +1,4 @@
 -- A run keeps its memories in range: from reset, and over each sample.
-use mathlib.Core.Path.{_≡_, ap}
 use Prim.Native.Nat.{ℕ}
 use Rattle.quantizer.specs.Codeword.{Codeword}
 use Rattle.quantizer.specs.Pair.{Pair}

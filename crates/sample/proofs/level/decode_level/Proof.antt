@@ -1,7 +1,5 @@
 -- `sample::level::decode_level` meets its contract; the core bits of the received codeword move the memory, the rest of it the output alone.
 use borrow.Author.Needs.{needs}
-use mathlib.Core.Path.{_≡_}
-use Rattle.engine.specs.Estimate.{estimateOf}
 use Rattle.engine.proofs.Estimates.{y-is, se-is, y-answered, se-answered}
 use Rattle.sample.specs.Decode.{decodeOf}
 use Rattle.sample.proofs.Cores.{core-codeword}

@@ -1,6 +1,5 @@
 -- `sample::pcm::adjusted` meets its contract: the byte stays, or moves by the places of the two codewords.
 use borrow.Author.Needs.{needs}
-use mathlib.Core.Path.{_≡_, _∙_}
 use Rattle.quantizer.proofs.Halves.{width-of}
 use Rattle.sample.proofs.Adjusting.{requantized-codeword, moved-by-places, agreed}
 use Rattle.sample.proofs.pcm.adjusted.Statement.{statement}

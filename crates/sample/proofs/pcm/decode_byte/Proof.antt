@@ -1,6 +1,5 @@
 -- `sample::pcm::decode_byte` meets its contract: Y and SE are those of the memory's estimate.
 use borrow.Author.Needs.{needs}
-use mathlib.Core.Path.{_≡_}
 use Rattle.engine.proofs.Estimates.{y-range, se-word}
 use Rattle.sample.specs.Decode.{decodeOf}
 use Rattle.sample.specs.Pcm.{playOf}

@@ -1,6 +1,5 @@
 -- `sample::pcm::moved_byte` meets its contract, test by test.
 use borrow.Author.Needs.{needs}
-use mathlib.Core.Path.{_∙_}
 use borrow.Author.Tests.{lt-ltb, le-ltb, eq-eqb, ne-eqb}
 use Rattle.sample.specs.Pcm.{moveOf}
 use Rattle.sample.proofs.pcm.moved_byte.Statement.{statement}
