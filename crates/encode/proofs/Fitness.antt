@@ -1,6 +1,6 @@
 -- What encode's 0 says of its inputs, and that fit inputs get no other number.
 use mathlib.Core.Path.{_≡_, refl}
-use Prim.Native.Nat.{ℕ, _≤_}
+use Prim.Native.Nat.{ℕ, _*_, _≤_}
 use native.Mathlib.Omega.{arith}
 use borrow.Author.Tests.{ltb-false, le-ltb, leb-true, le-leb, not-false}
 use Rattle.words.proofs.First.{first-says}
@@ -8,7 +8,8 @@ use Rattle.words.specs.First.{first}
 use Rattle.quantizer.proofs.Pairs.{pair-says, pair-of}
 use Rattle.state.specs.declared.State.{State}
 use Rattle.state.proofs.Ranges.{range-says, range-of}
-use Rattle.frame.specs.Header.{edition}
+use Rattle.frame.specs.declared.header.Header.{Header}
+use Rattle.frame.specs.Header.{edition, group, mostGroups}
 use Rattle.frame.proofs.Sounds.{Counted, count-says, count-of}
 use Rattle.encode.specs.Levels.{encodedHeader}
 use Rattle.encode.specs.Encode.{encodeNumber}
@@ -37,3 +38,9 @@ module _ (s : State) (LAW width n room : ℕ) where
       let whole = k .whole in
       let counted : Counted edition n = record { whole = omega arith; groups = k .header .count } in
       rw (range-of s (k .range), le-leb LAW 1 law, pair-of (k .header .pair), count-of counted, le-ltb _ _ (k .space))
+
+-- and they are no more than the longest frame has
+pub encodable-few : {s : State} {h : Header} {n room : ℕ} → Encodable s h n room → n ≤ mostGroups edition * group
+encodable-few {s} {h} {n} k =
+    let most = rw (k .header .known) at (k .header .count .high) in
+    omega (arith, most, k .whole)

@@ -5,16 +5,14 @@ use Prim.Native.Nat.{_≤_}
 use native.Mathlib.Omega.{arith}
 use lib.ListN.{length}
 use denote.Ref.{now}
+use Rattle.encode.proofs.Fitness.{encodable-few}
 use Rattle.encode.proofs.Expanding.{levels-length, levels-short, levels-taken}
 use Rattle.encode.proofs.encode_into.Statement.{statement}
 use Rattle.encode.proofs.encode_into.Tie as tie
 
 -- a frame's samples have room among the levels
 room : (c : tie.After-levels) → length (now (c .before .before .before .before .args .samples)) ≤ length (c .before .blank-levels .result)
-room c =
-    let able = c .before .before .before .before .pre in
-    let most = rw (able .header .known) at (able .header .count .high) in
-    omega (arith, most, able .whole, c .before .blank-levels .ensures)
+room c = rw (c .before .blank-levels .ensures) (encodable-few (c .before .before .before .before .pre))
 
 slice-aggregate-encode-levels : tie.Need-slice-aggregate-encode-levels
 slice-aggregate-encode-levels c =

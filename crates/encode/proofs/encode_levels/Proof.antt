@@ -6,16 +6,14 @@ use native.Mathlib.Omega.{arith}
 use lib.ListN.{length}
 use denote.Ref.{now}
 use Rattle.encode.specs.Levels.{encodedState}
+use Rattle.encode.proofs.Fitness.{encodable-few}
 use Rattle.encode.proofs.Encoding.{codewords-length, codewords-taken}
 use Rattle.encode.proofs.encode_levels.Statement.{statement}
 use Rattle.encode.proofs.encode_levels.Tie as tie
 
 -- a frame's levels have room among the codewords
 room : (c : tie.After-codewords) → length (now (c .before .before .before .before .before .args .levels)) ≤ length (c .before .before .blank-codewords .result)
-room c =
-    let able = c .before .before .before .before .before .pre .0 in
-    let most = rw (able .header .known) at (able .header .count .high) in
-    omega (arith, most, able .whole, c .before .before .blank-codewords .ensures)
+room c = rw (c .before .before .blank-codewords .ensures) (encodable-few (c .before .before .before .before .before .pre .0))
 
 encode-all-requires : tie.Need-encode-all-requires
 encode-all-requires c κs =
