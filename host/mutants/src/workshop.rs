@@ -33,11 +33,14 @@ pub struct Workshop {
 }
 
 impl Workshop {
-    /// Copies `host/` into the folder. Its programs look for the proved programs' lines beside it.
+    /// Copies `host/` into the folder. Its programs look for the proved programs' lines beside it, and
+    /// the second tool for the lines of its version.
     pub fn open(repository: &Path, folder: &Path) -> Result<Workshop, String> {
         let host = folder.join("host");
         copy(&repository.join("host"), &host)?;
-        symlink(repository.join("crates"), folder.join("crates")).map_err(told(folder))?;
+        for beside in ["crates", "VERSION", "KIT"] {
+            symlink(repository.join(beside), folder.join(beside)).map_err(told(folder))?;
+        }
         Ok(Workshop { host })
     }
 

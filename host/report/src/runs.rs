@@ -28,7 +28,7 @@ pub struct Run {
 pub fn at_core(tool: &Tool, sample: &Sample, core: u8) -> Result<Vec<Run>, String> {
     let words = ["-v", "encode", "mu", "5", &core.to_string()];
     let sent = tool.run_whole(&words, &sample.speech)?;
-    let near = lines(&sent.said)?;
+    let near = lines(&sent.text())?;
     (core..=WIDEST)
         .rev()
         .map(|width| thinned(tool, sample, &sent.octets, &near, (width, core)))
@@ -42,7 +42,8 @@ fn thinned(
     near: &[String],
     (width, core): (u8, u8),
 ) -> Result<Run, String> {
-    let thin = dropped(tool, frames, width)?;
+    let drop = ["drop", &width.to_string()];
+    let thin = tool.run_whole(&drop, frames)?.octets;
     let heard = tool.run_whole(&["-v", "decode", "mu"], &thin)?;
     if heard.octets.len() != sample.speech.len() {
         let (sent, got) = (sample.speech.len(), heard.octets.len());
@@ -51,7 +52,7 @@ fn thinned(
             sample.name
         ));
     }
-    let far = lines(&heard.said)?;
+    let far = lines(&heard.text())?;
     let levels_heard = levels(&heard.octets);
     Ok(Run {
         core,
@@ -63,16 +64,6 @@ fn thinned(
         near: slow_scales(near),
         far: slow_scales(&far),
     })
-}
-
-/// The proved tool has no exit status, so that a refusal shows only in what it says.
-fn dropped(tool: &Tool, frames: &[u8], width: u8) -> Result<Vec<u8>, String> {
-    let thin = tool.run_whole(&["drop", &width.to_string()], frames)?;
-    if thin.said.is_empty() {
-        Ok(thin.octets)
-    } else {
-        Err(thin.said)
-    }
 }
 
 /// Thousands of bits a second, of octets that carry that many samples.

@@ -2,7 +2,8 @@
 //! starts, and ends with 1 where one of them differs.
 
 use runs::compare::difference;
-use runs::stored::{read_all, Run};
+use runs::perform::perform;
+use runs::stored::read_all;
 use std::env;
 use std::path::Path;
 use std::process::ExitCode;
@@ -31,8 +32,8 @@ fn compare(folder: &Path, tool: &Tool) -> Result<bool, String> {
     let runs = read_all(folder)?;
     let mut differing = 0;
     for run in &runs {
-        if let Some(line) = different(run, tool)? {
-            println!("runs: {} ({}): {line}", run.name, run.words.join(" "));
+        if let Some(line) = difference(&run.due, &perform(tool, &run.given)?) {
+            println!("runs: {} ({}): {line}", run.name, run.given.call());
             differing += 1;
         }
     }
@@ -43,9 +44,4 @@ fn compare(folder: &Path, tool: &Tool) -> Result<bool, String> {
         runs.len()
     );
     Ok(differing == 0)
-}
-
-fn different(run: &Run, tool: &Tool) -> Result<Option<String>, String> {
-    let words: Vec<&str> = run.words.iter().map(String::as_str).collect();
-    Ok(difference(run, &tool.run(&words, &run.input)?))
 }

@@ -1,17 +1,32 @@
-//! The words that the tool is called with, and what is said of wrong ones.
+//! What the tool is called to do.
 
+use crate::line::{shown, Line};
+use crate::words::{number, wrong, Word, Words};
+use second::frame::is_sample_count;
 use second::g711::Law;
+use second::replies::{is_pair, NARROWEST_CORE, WIDEST};
 
 #[derive(Debug, PartialEq, Eq)]
-pub struct Call {
+pub enum Call {
+    Help,
+    Version,
+    Job(Job),
+}
+
+#[derive(Debug, PartialEq, Eq)]
+pub struct Job {
     pub verbose: bool,
+    pub states: Option<Word>,
     pub command: Command,
+    /// None is the standard one, here and below.
+    pub input: Option<Word>,
+    pub output: Option<Word>,
 }
 
 #[derive(Debug, PartialEq, Eq)]
 pub enum Command {
     Encode(Plan),
-    Drop { width: u8 },
+    Drop { widths: Widths, most: bool },
     Decode { law: Law },
     Inspect,
 }
@@ -24,92 +39,150 @@ pub struct Plan {
     pub samples: usize,
 }
 
+#[derive(Debug, PartialEq, Eq)]
+pub enum Widths {
+    One(u8),
+    List(Word),
+}
+
 const SAMPLES: usize = 160;
-const SHOWN: usize = 64;
-const HOW: &str =
-    "called as: parchfennel [-v] encode mu|a WIDTH CORE [SAMPLES] | drop WIDTH | decode mu|a | inspect";
 
-/// What is wrong, and how the tool is called, in one line.
-pub fn told(wrong: &str) -> String {
-    format!("{wrong}; {HOW}")
-}
-
-pub fn parse(words: &[String]) -> Result<Call, String> {
-    let words: Vec<&str> = words.iter().map(String::as_str).collect();
-    let (verbose, rest) = match words.as_slice() {
-        ["-v", rest @ ..] => (true, rest),
-        rest => (false, rest),
-    };
-    let command = command(rest).map_err(|wrong| told(&wrong))?;
-    Ok(Call { verbose, command })
-}
-
-fn command(words: &[&str]) -> Result<Command, String> {
-    match words {
-        ["encode", words @ ..] => encode(within(words, 3..=4)?).map(Command::Encode),
-        ["drop", words @ ..] => {
-            octet(within(words, 1..=1)?[0]).map(|width| Command::Drop { width })
-        }
-        ["decode", words @ ..] => law(within(words, 1..=1)?[0]).map(|law| Command::Decode { law }),
-        ["inspect", words @ ..] => within(words, 0..=0).map(|_| Command::Inspect),
-        [other, ..] => Err(unknown(other)),
-        [] => Err(missing()),
+/// The call, or what is wrong with the first wrong word.
+pub fn parse(words: &[Word]) -> Result<Call, Line> {
+    let mut words = Words::new(words);
+    if words.take("--help") {
+        return words.end().map(|()| Call::Help);
     }
+    if words.take("--version") {
+        return words.end().map(|()| Call::Version);
+    }
+    job(&mut words).map(Call::Job)
 }
 
-/// The words, if there are so many; else the first that is missing or too many.
-fn within<'a>(
-    words: &'a [&'a str],
-    counts: std::ops::RangeInclusive<usize>,
-) -> Result<&'a [&'a str], String> {
-    if words.len() < *counts.start() {
-        return Err(missing());
-    }
-    match words.get(*counts.end()) {
-        Some(beyond) => Err(unknown(beyond)),
-        None => Ok(words),
-    }
-}
-
-fn encode(words: &[&str]) -> Result<Plan, String> {
-    Ok(Plan {
-        law: law(words[0])?,
-        width: octet(words[1])?,
-        core: octet(words[2])?,
-        samples: words.get(3).map_or(Ok(SAMPLES), |word| number(word))?,
+fn job(words: &mut Words) -> Result<Job, Line> {
+    let (verbose, states) = options(words)?;
+    let command = command(words, states.is_some())?;
+    let input = words.place()?;
+    let output = words.place()?;
+    words.end()?;
+    apart(&output, [&input, &list(&command)])?;
+    apart(&states, [&input, &output])?;
+    Ok(Job {
+        verbose,
+        states,
+        command,
+        input,
+        output,
     })
 }
 
-fn law(word: &str) -> Result<Law, String> {
-    match word {
-        "mu" => Ok(Law::Mu),
-        "a" => Ok(Law::A),
-        _ => Err(unknown(word)),
+/// An option that comes again is left to be read as a command, and there is none of its name.
+fn options(words: &mut Words) -> Result<(bool, Option<Word>), Line> {
+    let (mut verbose, mut states) = (false, None);
+    loop {
+        if !verbose && words.take("-v") {
+            verbose = true;
+        } else if states.is_none() && words.take("-states") {
+            states = Some(words.file()?);
+        } else {
+            return Ok((verbose, states));
+        }
     }
 }
 
-/// A number that is no octet is beyond every limit, and so is 255.
-fn octet(word: &str) -> Result<u8, String> {
-    Ok(number(word)?.try_into().unwrap_or(u8::MAX))
-}
-
-fn number(word: &str) -> Result<usize, String> {
-    if word.is_empty() || !word.bytes().all(|letter| letter.is_ascii_digit()) {
-        return Err(format!("not a number: {}", shown(word)));
+fn command(words: &mut Words, states: bool) -> Result<Command, Line> {
+    let word = words.due("COMMAND")?;
+    match word.as_slice() {
+        b"encode" => encode(words).map(Command::Encode),
+        b"decode" => law(words).map(|law| Command::Decode { law }),
+        b"drop" | b"inspect" if states => Err(wrong("no states to write", word)),
+        b"drop" => drop(words),
+        b"inspect" => Ok(Command::Inspect),
+        _ => Err(wrong("unknown word", word)),
     }
-    Ok(word.parse().unwrap_or(usize::MAX))
 }
 
-fn missing() -> String {
-    "a word is missing".to_string()
+fn encode(words: &mut Words) -> Result<Plan, Line> {
+    let law = law(words)?;
+    let (width, core) = pair(words)?;
+    let samples = words.take_digits().map_or(Ok(SAMPLES), samples)?;
+    Ok(Plan {
+        law,
+        width,
+        core,
+        samples,
+    })
 }
 
-fn unknown(word: &str) -> String {
-    format!("unknown word: {}", shown(word))
+fn law(words: &mut Words) -> Result<Law, Line> {
+    let word = words.due("LAW")?;
+    match word.as_slice() {
+        b"mu" => Ok(Law::Mu),
+        b"a" => Ok(Law::A),
+        _ => Err(wrong("no law", word)),
+    }
 }
 
-fn shown(word: &str) -> String {
-    word.chars().take(SHOWN).collect()
+fn pair(words: &mut Words) -> Result<(u8, u8), Line> {
+    let (width, x) = octet(words, "WIDTH")?;
+    let (core, y) = octet(words, "CORE")?;
+    if !is_pair(x, y) {
+        let what = b"no pair of WIDTH and CORE: '".as_slice();
+        return Err([what, shown(width), b" ", shown(core), b"'"].concat());
+    }
+    Ok((x, y))
+}
+
+/// A number and its word. One that is no octet is beyond every limit, and so is 255.
+fn octet<'a>(words: &mut Words<'a>, name: &str) -> Result<(&'a Word, u8), Line> {
+    let word = words.due(name)?;
+    Ok((word, number(word)?.try_into().unwrap_or(u8::MAX)))
+}
+
+fn samples(word: &Word) -> Result<usize, Line> {
+    let count = number(word)?;
+    if is_sample_count(count) {
+        Ok(count)
+    } else {
+        Err(wrong("no count of samples", word))
+    }
+}
+
+fn drop(words: &mut Words) -> Result<Command, Line> {
+    let most = words.take("-most");
+    let widths = if words.take("-list") {
+        Widths::List(words.file()?)
+    } else {
+        Widths::One(width(words)?)
+    };
+    Ok(Command::Drop { widths, most })
+}
+
+fn width(words: &mut Words) -> Result<u8, Line> {
+    let (word, width) = octet(words, "WIDTH")?;
+    if (NARROWEST_CORE..=WIDEST).contains(&width) {
+        Ok(width)
+    } else {
+        Err(wrong("no width", word))
+    }
+}
+
+fn list(command: &Command) -> Option<Word> {
+    match command {
+        Command::Drop {
+            widths: Widths::List(word),
+            ..
+        } => Some(word.clone()),
+        _ => None,
+    }
+}
+
+/// Insists that a file that is written is none of the others.
+fn apart(written: &Option<Word>, others: [&Option<Word>; 2]) -> Result<(), Line> {
+    match written {
+        Some(word) if others.contains(&written) => Err(wrong("two words for one file", word)),
+        _ => Ok(()),
+    }
 }
 
 #[cfg(test)]
@@ -117,37 +190,96 @@ mod tests {
     use super::*;
 
     fn read(words: &str) -> Result<Call, String> {
-        let words: Vec<String> = words.split_whitespace().map(str::to_string).collect();
-        parse(&words)
+        let words: Vec<Word> = words.split_whitespace().map(Word::from).collect();
+        parse(&words).map_err(|line| String::from_utf8_lossy(&line).into_owned())
+    }
+
+    fn plan(samples: usize) -> Plan {
+        Plan {
+            law: Law::A,
+            width: 5,
+            core: 2,
+            samples,
+        }
     }
 
     #[test]
     fn a_call_is_read() {
-        let plan = Plan {
-            law: Law::A,
-            width: 5,
-            core: 2,
-            samples: 160,
-        };
-        let expected = Call {
+        let expected = Job {
             verbose: true,
-            command: Command::Encode(plan),
+            states: Some("s".into()),
+            command: Command::Encode(plan(160)),
+            input: None,
+            output: Some("f".into()),
         };
-        assert_eq!(read("-v encode a 5 2"), Ok(expected));
+        let found = read("-states s -v encode a 5 2 - f");
+        assert_eq!(found, Ok(Call::Job(expected)));
+    }
+
+    #[test]
+    fn samples_are_told_from_a_file() {
+        for (words, samples, input) in [
+            ("encode a 5 2", 160, None),
+            ("encode a 5 2 008", 8, None),
+            ("encode a 5 2 8x", 160, Some("8x".into())),
+            ("encode a 5 2 8 ./8", 8, Some("./8".into())),
+        ] {
+            let Ok(Call::Job(job)) = read(words) else {
+                panic!("{words} is wrong");
+            };
+            assert_eq!(job.command, Command::Encode(plan(samples)), "{words}");
+            assert_eq!(job.input, input, "{words}");
+        }
+    }
+
+    #[test]
+    fn the_two_standard_files_are_no_file_twice() {
+        assert!(read("inspect - -").is_ok());
+        assert!(read("drop -list w w -").is_ok());
     }
 
     #[test]
     fn the_first_wrong_word_is_told() {
         for (words, wrong) in [
-            ("", "a word is missing"),
-            ("-v", "a word is missing"),
-            ("encode mu 5", "a word is missing"),
-            ("encode u 5 x", "unknown word: u"),
-            ("drop 2 3", "unknown word: 3"),
-            ("drop two", "not a number: two"),
-            ("inspect -v", "unknown word: -v"),
+            ("", "a word is missing: COMMAND"),
+            ("-v", "a word is missing: COMMAND"),
+            ("-states", "a word is missing: FILE"),
+            ("encode", "a word is missing: LAW"),
+            ("encode mu 9", "a word is missing: CORE"),
+            ("encode u 5 x", "no law: 'u'"),
+            ("encode mu 9 x", "not a number: 'x'"),
+            ("encode mu 9 2 7", "no pair of WIDTH and CORE: '9 2'"),
+            ("-v -v decode mu", "unknown word: '-v'"),
+            ("-v --help", "unknown word: '--help'"),
+            ("--help --version", "unknown word: '--version'"),
+            ("-states s drop x", "no states to write: 'drop'"),
+            ("drop", "a word is missing: WIDTH"),
+            ("drop two", "not a number: 'two'"),
+            ("drop 258", "no width: '258'"),
+            ("drop -most -most 3", "not a number: '-most'"),
+            ("drop -most -list", "a word is missing: FILE"),
+            ("inspect a a b", "unknown word: 'b'"),
+            ("inspect a a", "two words for one file: 'a'"),
+            ("drop -list w - w", "two words for one file: 'w'"),
+            ("-states a decode a a b c", "unknown word: 'c'"),
+            ("-states b decode a a b", "two words for one file: 'b'"),
         ] {
-            assert_eq!(read(words), Err(told(wrong)), "{words}");
+            assert_eq!(read(words), Err(wrong.to_string()), "{words}");
+        }
+    }
+
+    #[test]
+    fn what_is_no_file_name_is_told_at_its_place() {
+        let what = "not a file name (one called so is written with ./ before it)";
+        for (words, wrong) in [
+            ("decode mu -v", "-v"),
+            ("drop 2 3", "3"),
+            ("drop -list w -list", "-list"),
+            ("drop -list -", "-"),
+            ("-states - decode mu", "-"),
+            ("encode mu 5 2 160 8", "8"),
+        ] {
+            assert_eq!(read(words), Err(format!("{what}: '{wrong}'")), "{words}");
         }
     }
 }

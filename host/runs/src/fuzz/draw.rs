@@ -1,0 +1,108 @@
+//! Calls drawn one after the other from a start, so that a difference can be met again.
+
+use super::draft::Draft;
+use super::edit::edit;
+use crate::run::Given;
+use random::Random;
+
+/// What a call is drawn to end with. The program decides, but in this way no status is rare.
+#[derive(Clone, Copy, Debug, PartialEq, Eq)]
+pub enum Aim {
+    Done,
+    Fault,
+    WrongWords,
+}
+
+const AIMS: [Aim; 8] = [
+    Aim::Done,
+    Aim::Done,
+    Aim::Fault,
+    Aim::Fault,
+    Aim::Fault,
+    Aim::WrongWords,
+    Aim::WrongWords,
+    Aim::WrongWords,
+];
+
+pub fn draw(random: &mut Random) -> (Aim, Given) {
+    let aim = random.pick(&AIMS);
+    let mut draft = Draft::draw(random);
+    if aim == Aim::Fault {
+        draft.spoil(random);
+        // With two faults it shows which is met first.
+        if random.below(4) == 0 {
+            draft.spoil(random);
+        }
+    }
+    let slips = aim == Aim::WrongWords && random.below(5) > 0;
+    if aim == Aim::WrongWords && (!slips || random.below(8) == 0) {
+        draft.tangle(random);
+    }
+    let mut given = draft.given();
+    if slips {
+        edit(&mut given.words, random);
+    }
+    (aim, given)
+}
+
+#[cfg(test)]
+mod tests {
+    use super::*;
+    use std::collections::BTreeSet;
+
+    const COUNT: usize = 3_000;
+
+    fn drawn(seed: u64) -> Vec<(Aim, Given)> {
+        let mut random = Random::new(seed);
+        (0..COUNT).map(|_| draw(&mut random)).collect()
+    }
+
+    #[test]
+    fn a_seed_fixes_the_calls() {
+        assert_eq!(drawn(7), drawn(7));
+        assert_ne!(drawn(7), drawn(8));
+    }
+
+    #[test]
+    fn every_aim_is_met_often() {
+        let drawn = drawn(1);
+        for aim in [Aim::Done, Aim::Fault, Aim::WrongWords] {
+            let met = drawn.iter().filter(|(found, _)| *found == aim).count();
+            assert!(met > COUNT / 5, "{aim:?}: {met}");
+        }
+    }
+
+    /// Commands, options and kinds of files, each with the words that are fitting.
+    #[test]
+    fn every_part_of_the_grammar_is_drawn() {
+        let fitting = drawn(2).into_iter().filter(|(aim, _)| *aim == Aim::Done);
+        let calls: Vec<Given> = fitting.map(|(_, given)| given).collect();
+        for word in [
+            "encode", "drop", "decode", "inspect", "mu", "a", "-v", "-states", "-most", "-list",
+            "-", "in", "./160", "./-", "out", "./8", "s", "./7", "w", "320",
+        ] {
+            let met = calls.iter().filter(|g| g.words.contains(&word.into()));
+            assert!(met.count() > 2, "{word}");
+        }
+    }
+
+    #[test]
+    fn most_calls_are_small_and_all_can_be_stored() {
+        let calls = drawn(3);
+        let size =
+            |given: &Given| given.input.len() + given.files.values().map(Vec::len).sum::<usize>();
+        let small = calls.iter().filter(|(_, given)| size(given) < 2_000);
+        assert!(small.count() > COUNT * 9 / 10);
+        let words: BTreeSet<_> = calls.iter().flat_map(|(_, given)| &given.words).collect();
+        let blank = |octet: &u8| octet.is_ascii_whitespace();
+        assert!(!words.iter().any(|w| w.as_encoded_bytes().iter().any(blank)));
+    }
+
+    /// As IN it would have no end.
+    #[test]
+    fn the_full_device_stands_in_no_call_with_a_slip() {
+        for (_, given) in drawn(4).iter().filter(|(aim, _)| *aim == Aim::WrongWords) {
+            assert!(!given.words.contains(&"/dev/full".into()));
+        }
+    }
+}
