@@ -1,0 +1,99 @@
+// The words of encode and decode: LAW WIDTH CORE [SAMPLES], and LAW.
+use crate::kinds::law_at;
+use crate::kinds::number;
+use crate::words::after;
+use crate::words::number_at;
+use crate::words::octet_of;
+use crate::wrong::wrong;
+use crate::wrong::wrong_pair;
+use frame::header::EDITION;
+use frame::header::is_count;
+use quantizer::pair::is_pair;
+
+// What they ask, and the place behind them
+pub struct Coding {
+    pub good: bool,
+    pub at: usize,
+    pub law: u8,
+    pub width: u8,
+    pub core: u8,
+    pub samples: usize,
+}
+
+// Beside it every width is a pair's.
+const LEAST_CORE: u8 = 2;
+
+const USUAL_SAMPLES: usize = 160;
+
+pub fn is_width(width: u8) -> bool {
+    is_pair(width, LEAST_CORE)
+}
+
+// What no word asks
+pub fn usual() -> Coding {
+    Coding {
+        good: false,
+        at: 0,
+        law: 0,
+        width: 0,
+        core: LEAST_CORE,
+        samples: USUAL_SAMPLES,
+    }
+}
+
+pub fn read_decode(at: usize) -> Coding {
+    let law = law_at(at);
+    Coding {
+        good: law <= 1,
+        at: after(at),
+        law,
+        ..usual()
+    }
+}
+
+pub fn read_encode(at: usize) -> Coding {
+    let coding = read_decode(at);
+    if !coding.good {
+        return usual();
+    }
+    let first = coding.at;
+    let width = number(first, b"WIDTH");
+    if !width.good {
+        return usual();
+    }
+    let second = after(first);
+    let core = number(second, b"CORE");
+    if !core.good {
+        return usual();
+    }
+    let x = octet_of(width.value);
+    let y = octet_of(core.value);
+    if !is_pair(x, y) {
+        wrong_pair(first, second);
+        return usual();
+    }
+    with_samples(Coding {
+        at: after(second),
+        width: x,
+        core: y,
+        ..coding
+    })
+}
+
+// SAMPLES, where a number is next
+fn with_samples(coding: Coding) -> Coding {
+    let at = coding.at;
+    let count = number_at(at);
+    if !count.good {
+        return coding;
+    }
+    if !is_count(EDITION, count.value) {
+        wrong(b"no count of samples: ", at);
+        return usual();
+    }
+    Coding {
+        at: after(at),
+        samples: count.value,
+        ..coding
+    }
+}

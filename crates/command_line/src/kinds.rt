@@ -1,0 +1,51 @@
+// A word that has to be of a kind: a file's name, a law, a number. Says where it is missing or none.
+use crate::words::Number;
+use crate::words::is_name;
+use crate::words::is_there;
+use crate::words::is_word;
+use crate::words::number_at;
+use crate::wrong::missing;
+use crate::wrong::wrong;
+
+pub fn is_file(at: usize) -> bool {
+    if !is_there(at) {
+        missing(b"FILE");
+        return false;
+    }
+    let good = is_name(at);
+    if !good {
+        wrong(
+            b"not a file name (one called so is written with ./ before it): ",
+            at,
+        );
+    }
+    good
+}
+
+// 0 for mu, 1 for a, and 2 for another word
+pub fn law_at(at: usize) -> u8 {
+    if !is_there(at) {
+        missing(b"LAW");
+        return 2;
+    }
+    if is_word(at, b"mu") {
+        return 0;
+    }
+    if is_word(at, b"a") {
+        return 1;
+    }
+    wrong(b"no law: ", at);
+    2
+}
+
+pub fn number(at: usize, name: &[u8]) -> Number {
+    let found = number_at(at);
+    if !is_there(at) {
+        missing(name);
+        return found;
+    }
+    if !found.good {
+        wrong(b"not a number: ", at);
+    }
+    found
+}

@@ -1,0 +1,60 @@
+// What is said on standard error of the data: why it was at fault, and notes.
+use libc::STDERR_FILENO;
+use replies::Reply;
+use replies::number_of;
+use text::Line;
+
+// What kind of line it is, the frame, and where it begins in the stream
+fn placed(kind: &[u8], frame: u64, octet: u64) -> Line {
+    Line::empty()
+        .text(b"parchfennel: ")
+        .text(kind)
+        .text(b"frame ")
+        .number(frame)
+        .text(b" at octet ")
+        .number(octet)
+        .text(b": ")
+}
+
+// A reply other than 0: which frame, where it begins in the stream, and the row of the table of replies
+pub fn refuse(frame: u64, octet: u64, reply: Reply) {
+    placed(b"", frame, octet)
+        .text(b"refused with ")
+        .row(
+            number_of(reply),
+            b"0: done\n\
+            1: width or core not one of the nine pairs\n\
+            2: sample count not a multiple of 8 from 8 to 320, or g not 1 to 40\n\
+            3: out buffer shorter than the result\n\
+            4: a state variable outside its range\n\
+            5: fewer than 2 octets, or edition not 01\n\
+            6: length not 2 + x times g\n\
+            7: frame's core differs from the state's\n\
+            8: target width below y or above x\n\
+            9: law not 0 (mu) or 1 (A)\n",
+        )
+        .write(STDERR_FILENO);
+}
+
+// The stream ends inside a frame, of which there are so many octets
+pub fn say_cut(frame: u64, octet: u64, there: usize) {
+    let line = placed(b"", frame, octet);
+    say_count(
+        line.text(b"the stream ends inside the frame; octets of it: "),
+        there,
+    );
+}
+
+// By how many samples the last frame was filled up
+pub fn say_filled(frame: u64, octet: u64, samples: usize) {
+    let line = placed(b"note: ", frame, octet);
+    say_count(
+        line.text(b"filled up with silence; samples added: "),
+        samples,
+    );
+}
+
+fn say_count(line: Line, count: usize) {
+    let n = count as u64;
+    line.number(n).octet(b'\n').write(STDERR_FILENO);
+}
