@@ -1,0 +1,19 @@
+use borrow.Author.Needs.{needs}
+use Rattle.sequence.proofs.step.line_ended.Statement.{statement}
+use Rattle.sequence.proofs.step.line_ended.Tie as tie
+use Rattle.sequence.proofs.step.line_ended.Reads as reads
+use Rattle.sequence.proofs.step.line_ended.Lts as lts
+use Rattle.sequence.proofs.step.place_of.Reads as place-of-reads
+use Rattle.std.proofs.num.wrapping_add_u64.Reads as wrapping-add-u64-reads
+
+place-of-requires : tie.Need-place-of-requires
+place-of-requires c κs = search needs
+
+wrapping-add-u64-requires : tie.Need-wrapping-add-u64-requires
+wrapping-add-u64-requires c κs = search needs
+
+returns : tie.Need-returns
+returns c = cc
+
+pub line-ended-spec : {M : Type 1} → statement M
+line-ended-spec = tie.close (tie.spec place-of-requires wrapping-add-u64-requires returns)

@@ -1,0 +1,15 @@
+use borrow.Author.Needs.{needs}
+use Rattle.sequence.proofs.writer.end.Statement.{statement}
+use Rattle.sequence.proofs.writer.end.Tie as tie
+use Rattle.sequence.proofs.writer.end.Reads as reads
+use Rattle.sequence.proofs.writer.end.Lts as lts
+use Rattle.sequence.proofs.writer.closed.Reads as closed-reads
+
+closed-requires : tie.Need-closed-requires
+closed-requires c κs = search needs
+
+returns : tie.Need-returns
+returns c = cc
+
+pub end-spec : {M : Type 1} → statement M
+end-spec = tie.close (tie.spec closed-requires returns)

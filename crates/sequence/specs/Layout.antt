@@ -1,0 +1,20 @@
+-- The text that the writer makes of values (docs/RULES.md, "The text of a sequence"): capitals, 32 values to a line except the last of them, then the
+-- remainder's line.
+use mathlib.Core.List.{List, [], _∷_, _++_}
+use Prim.Native.Nat.{ℕ, zero, suc, _+_, _/_, _%_}
+use lib.ListN.{length, take, drop}
+use Rattle.sequence.specs.Digits.{lineFeed, capital}
+use Rattle.sequence.specs.Text.{remainder}
+
+-- values, two digits each, and a line feed
+unfoldable pub lineOf : List ℕ → List ℕ
+lineOf [] = lineFeed ∷ []
+lineOf (v ∷ vs) = capital (v / 16) ∷ capital (v % 16) ∷ lineOf vs
+
+-- n lines
+unfoldable pub rows : ℕ → List ℕ → List ℕ
+rows zero vs = []
+rows (suc n) vs = lineOf (take 32 vs) ++ rows n (drop 32 vs)
+
+unfoldable pub textOf : List ℕ → List ℕ
+textOf vs = rows ((length vs + 31) / 32) vs ++ lineOf (remainder vs ∷ [])

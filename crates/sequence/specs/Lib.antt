@@ -1,0 +1,7 @@
+pub mod Digits
+pub mod Piece
+pub mod Reading
+pub mod Text
+pub mod Layout
+pub mod Writing
+pub mod Inner

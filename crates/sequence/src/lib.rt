@@ -1,0 +1,6 @@
+// The text of a test sequence, read and written in pieces (docs/RULES.md, "The text of a sequence"). It knows nothing of
+// codecs.
+pub mod digits;
+pub mod reader;
+mod step;
+pub mod writer;
