@@ -4,3 +4,4 @@ pub mod Underway
 pub mod Taking
 pub mod Going
 pub mod Laying
+pub mod Cuts
