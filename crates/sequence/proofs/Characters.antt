@@ -1,9 +1,11 @@
--- The digit of a character, range by range; and that no capital letter, or digit, is a line feed.
-use mathlib.Core.Path.{_≡_, refl}
+-- The digit of a character, range by range; and that no digit is a line feed.
+use mathlib.Core.Bool.{false}
+use mathlib.Core.Path.{_≡_, ap}
 use Prim.Native.Nat.{ℕ, _+_, _-_, _≤_, _<_}
 use native.Mathlib.Omega.{arith}
-use borrow.Author.Tests.{le-leb, lt-leb}
-use Rattle.sequence.specs.Digits.{digitOf}
+use lib.Dec.{eqb}
+use borrow.Author.Tests.{le-leb, lt-leb, ne-eqb}
+use Rattle.sequence.specs.Digits.{digitOf, lineFeed}
 
 module _ (c : ℕ) where
   pub digit-low : c < 48 → 16 ≡ digitOf c
@@ -33,3 +35,7 @@ module _ (c : ℕ) where
   pub digit-beyond : 102 < c → 16 ≡ digitOf c
   unfolding digitOf
   digit-beyond h = rw (le-leb 48 c (omega arith), lt-leb c 57 (omega arith), le-leb 65 c (omega arith), lt-leb c 70 (omega arith), le-leb 97 c (omega arith), lt-leb c 102 h)
+
+  pub digit-no-feed : digitOf c < 16 → eqb c lineFeed ≡ false
+  unfolding digitOf
+  digit-no-feed d = ne-eqb c 10 (λ e. let none : digitOf c ≡ digitOf 10 = ap digitOf e in omega arith)

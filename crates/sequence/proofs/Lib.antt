@@ -5,3 +5,9 @@ pub mod Taking
 pub mod Going
 pub mod Laying
 pub mod Cuts
+pub mod Refusing
+pub mod Onward
+pub mod Lines
+pub mod Standing
+pub mod Whole
+pub mod Conforming

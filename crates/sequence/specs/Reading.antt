@@ -60,16 +60,21 @@ handed r v =
     }
 
 -- the first digit of a value: what is held back is no remainder, since something follows it
+abbrev pub begun : Reader → ℕ → Reader
+begun r d = record { verdict = r .verdict; line = r .line; column = r .column + 1; high = d; holds = false; held = r .held; sum = r .sum }
+
 unfoldable pub firstDigit : Reader → ℕ → Stepped
-firstDigit r d =
-    let next : Reader = record { verdict = r .verdict; line = r .line; column = r .column + 1; high = d; holds = false; held = r .held; sum = r .sum } in
-    handed next (r .held) when r .holds ∣ kept next
+firstDigit r d = handed (begun r d) (r .held) when r .holds ∣ kept (begun r d)
 
 -- the second digit, with the value that it completes: the first value of a line is held back, every other one is handed out
+abbrev pub heldBack : Reader → ℕ → Reader
+heldBack r v = record { verdict = r .verdict; line = r .line; column = 2; high = r .high; holds = true; held = v; sum = r .sum }
+
+abbrev pub completed : Reader → Reader
+completed r = record { verdict = r .verdict; line = r .line; column = r .column + 1; high = r .high; holds = r .holds; held = r .held; sum = r .sum }
+
 unfoldable pub secondDigit : Reader → ℕ → Stepped
-secondDigit r v =
-    kept (record { verdict = r .verdict; line = r .line; column = 2; high = r .high; holds = true; held = v; sum = r .sum }) when eqb (r .column) 1
-  ∣ handed (record { verdict = r .verdict; line = r .line; column = r .column + 1; high = r .high; holds = r .holds; held = r .held; sum = r .sum }) v
+secondDigit r v = kept (heldBack r v) when eqb (r .column) 1 ∣ handed (completed r) v
 
 abbrev pub joined : ℕ → ℕ → ℕ
 joined high low = (high * 16 + low) % 256

@@ -9,6 +9,8 @@ use Rattle.sequence.specs.Digits.{lineFeed, digitOf, isDigit}
 use Rattle.sequence.specs.Reading.{longest, isWhole}
 use Rattle.sequence.specs.declared.reader.Refusal.{Refusal}
 use Rattle.sequence.specs.declared.reader.Refusal.the-variants.{BadCharacter, LineTooLong, WrongRemainder, MissingRemainder}
+use Rattle.sequence.specs.declared.reader.Verdict.{Verdict}
+use Rattle.sequence.specs.declared.reader.Verdict.the-variants.{Sound, Refused}
 
 pub data Outcome : Type 0 where
   Values : List ℕ → Outcome
@@ -57,3 +59,8 @@ lines p vs (line ∷ behind ∷ more) =
 
 unfoldable pub readOf : List ℕ → Outcome
 readOf text = characters 0 0 text (lines 0 [] (linesOf text))
+
+-- what was handed out, and the verdict at the text's end, as an outcome
+abbrev pub outcomeOf : List ℕ → Verdict → Outcome
+outcomeOf vs Sound = Values vs
+outcomeOf vs (Refused why place) = Wrong why place
