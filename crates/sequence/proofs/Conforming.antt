@@ -9,7 +9,7 @@ use lib.ListN.{length, length-append}
 use Rattle.words.specs.Notation.{pick}
 use Rattle.words.proofs.Pick.{cases, by-pick}
 use Rattle.sequence.specs.Piece.{Piece, stop, further, Fills}
-use Rattle.sequence.specs.Reading.{isRefused, next, givenOf, given, reading, Reads}
+use Rattle.sequence.specs.Reading.{isRefused, stepOf, next, givenOf, given, reading, Reads}
 use Rattle.sequence.specs.Writing.{writing, Writes}
 use Rattle.sequence.specs.declared.reader.Reader.{Reader}
 use Rattle.sequence.specs.declared.reader.ReadAnswer.{ReadAnswer}
@@ -65,7 +65,7 @@ module _ (room : ℕ) (r : Reader) (c : ℕ) (cs : List ℕ) where
   bounded-next : Bounded (room - length (given r c)) cs (reading (room - length (given r c)) (next r c) cs) → Dec (length (given r c) ≤ room) → Bounded room (c ∷ cs) (reading room r (c ∷ cs))
   bounded-next later (yes d) =
       cases (isRefused (next r c .verdict)) (λ e. rw (reading-refused room r c cs e) (bounded-stop (next r c)))
-      (λ e. rw (reading-more room r c cs e d) (bounded-further (given r c) _ (given-few _) d later))
+      (λ e. rw (reading-more room r c cs e d) (bounded-further (given r c) (reading (room - length (given r c)) (next r c) cs) (given-few (stepOf r c)) d later))
   bounded-next later (no d) =
       cases (isRefused (next r c .verdict)) (λ e. rw (reading-refused room r c cs e) (bounded-stop (next r c))) (λ e. rw (reading-full room r c cs e (omega arith)) (bounded-stop r))
 
@@ -81,4 +81,4 @@ unfolding stop further
 read-gets-on room r c cs some sound =
     cases (isRefused (next r c .verdict))
     (λ e. absurd (let z : _≡_ {A = Bool} true false = sym e ∙ (rw (reading-refused room r c cs e) at sound) in let one : _≡_ {A = ℕ} 0 1 = ap (λ (t : Bool). pick t 0 1) z in omega arith))
-    (λ e. let few = given-few (Rattle.sequence.specs.Reading.stepOf r c) in rw (reading-more room r c cs e (omega arith)) (omega arith))
+    (λ e. let few = given-few (stepOf r c) in rw (reading-more room r c cs e (omega arith)) (omega arith))
