@@ -5,7 +5,8 @@ use Prim.Native.Nat.{ℕ, _+_, _-_, _≤_, _<_}
 use native.Mathlib.Omega.{arith}
 use lib.Dec.{eqb}
 use borrow.Author.Tests.{le-leb, lt-leb, ne-eqb}
-use Rattle.sequence.specs.Digits.{digitOf, lineFeed}
+use Rattle.sequence.specs.Limits.{lineFeed}
+use Rattle.sequence.specs.Digits.{digitOf}
 
 module _ (c : ℕ) where
   pub digit-low : c < 48 → 16 ≡ digitOf c

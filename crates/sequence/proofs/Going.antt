@@ -72,7 +72,7 @@ module _ (r₀ : Reader) (text before : List ℕ) where
           let room : length (given r (getD text i 0)) ≤ length before - w = rw (← is) (fits (s .gives) (s .value) (length before) w free) in
           let rest = reading (length before - w - length (givenOf s)) (s .reader) (drop (suc i) text) in
           let on : reading (length before - w) r (getD text i 0 ∷ drop (suc i) text) ≡ further 1 (givenOf s) rest =
-              rw is (reading-more (length before - w) r (getD text i 0) (drop (suc i) text) (rw is at sound) room) in
+          rw is (reading-more (length before - w) r (getD text i 0) (drop (suc i) text) (rw is at sound) room) in
           record {
             within = omega arith;
             under =

@@ -81,6 +81,6 @@ module _ (w₀ : Writer) (values before : List ℕ) where
         let here : getD (drop i values) 0 0 ≡ getD values i 0 = getD-drop i values 0 0 ∙ ap (λ (k : ℕ). getD values k 0) (add-zero i) in
         let rest = writing (length before - (n + 1)) (s .writer) (drop (i + t) values) in
         let on : writing (length before - n) w (drop i values) ≡ further t (s .character ∷ []) rest =
-            rw (room, is, by, ← here, ← drop-drop (takenBy w) i values) (writing-more (length before - (n + 1)) w (drop i values) some) in
+        rw (room, is, by, ← here, ← drop-drop (takenBy w) i values) (writing-more (length before - (n + 1)) w (drop i values) some) in
         let s = size in
         record { within = rw by (reached (isDone (w .stage)) (awaits w) (length values) i (l .within) e); under = underway-one (writing (length before) w₀ values) before (l .under) t rest _ on (omega arith) }

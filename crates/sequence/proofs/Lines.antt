@@ -10,7 +10,8 @@ use lib.ListN.{length}
 use borrow.Author.Tests.{ne-eqb}
 use Rattle.words.specs.Notation.{_when_∣_}
 use Rattle.words.proofs.Pick.{by-pick}
-use Rattle.sequence.specs.Digits.{lineFeed, digitOf}
+use Rattle.sequence.specs.Limits.{lineFeed}
+use Rattle.sequence.specs.Digits.{digitOf}
 use Rattle.sequence.specs.Reading.{added}
 use Rattle.sequence.specs.Text.{Outcome, valuesOf, sumOf, remainder, onto, linesOf, lines}
 

@@ -8,8 +8,9 @@ use lib.Dec.{eqb, leb}
 use Rattle.words.specs.Notation.{pick}
 use Rattle.words.proofs.Pick.{by-pick, cases}
 use Rattle.lists.specs.Run.{last}
-use Rattle.sequence.specs.Digits.{lineFeed, digitOf, isDigit}
-use Rattle.sequence.specs.Reading.{isRefused, isWhole, refused, lineEnded, kept, handed, firstDigit, secondDigit, joined, withDigit, stepOf, next, givenOf, given, handedOut, endOf, longest}
+use Rattle.sequence.specs.Limits.{lineFeed, longest}
+use Rattle.sequence.specs.Digits.{digitOf, isDigit}
+use Rattle.sequence.specs.Reading.{isRefused, isWhole, refused, lineEnded, kept, handed, firstDigit, secondDigit, joined, withDigit, stepOf, next, givenOf, given, handedOut, endOf}
 use Rattle.sequence.specs.declared.reader.Refusal.the-variants.{BadCharacter, LineTooLong}
 use Rattle.sequence.specs.declared.reader.Reader.{Reader}
 use Rattle.sequence.specs.declared.step.Stepped.{Stepped}

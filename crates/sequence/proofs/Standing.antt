@@ -11,7 +11,8 @@ use borrow.Author.Tests.{eqb-true, eqb-false, eq-eqb, ne-eqb, leb-true, lt-leb}
 use Rattle.words.specs.Notation.{pick}
 use Rattle.words.proofs.Rows.{both}
 use Rattle.words.proofs.Pick.{cases}
-use Rattle.sequence.specs.Digits.{lineFeed, digitOf}
+use Rattle.sequence.specs.Limits.{lineFeed}
+use Rattle.sequence.specs.Digits.{digitOf}
 use Rattle.sequence.specs.Reading.{isRefused, isWhole, place, refused, lineEnded, kept, handed, begun, firstDigit, heldBack, completed, secondDigit, joined, withDigit, givenOf, added, back, endOf}
 use Rattle.sequence.specs.Text.{Outcome, outcomeOf, Values, Wrong, valuesOf, sumOf, remainder, onto, linesOf, lines}
 use Rattle.sequence.specs.declared.reader.Refusal.{Refusal}

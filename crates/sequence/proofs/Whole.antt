@@ -11,9 +11,10 @@ use borrow.Author.Tests.{eqb-true, eqb-false, eq-eqb, ne-eqb, leb-true, le-leb, 
 use Rattle.words.proofs.Rows.{both}
 use Rattle.words.proofs.Pick.{cases}
 use Rattle.lists.specs.Run.{last}
-use Rattle.sequence.specs.Digits.{lineFeed, digitOf}
+use Rattle.sequence.specs.Limits.{lineFeed, longest}
+use Rattle.sequence.specs.Digits.{digitOf}
 use Rattle.sequence.specs.Piece.{Offer, session}
-use Rattle.sequence.specs.Reading.{isRefused, isWhole, place, refused, lineEnded, kept, withDigit, stepOf, next, givenOf, given, handedOut, beginning, reading, endOf, longest}
+use Rattle.sequence.specs.Reading.{isRefused, isWhole, place, refused, lineEnded, kept, withDigit, stepOf, next, givenOf, given, handedOut, beginning, reading, endOf}
 use Rattle.sequence.specs.Text.{Outcome, outcomeOf, Values, Wrong, valuesOf, sumOf, remainder, linesOf, lines, characters, readOf}
 use Rattle.sequence.specs.declared.reader.Refusal.{Refusal}
 use Rattle.sequence.specs.declared.reader.Refusal.the-variants.{BadCharacter, LineTooLong}

@@ -1,12 +1,9 @@
--- Hexadecimal digits as characters: read in either case of letter, written in capitals; and the line feed.
+-- Hexadecimal digits as characters: read in either case of letter, written in capitals.
 use mathlib.Core.Bool.{Bool}
 use Prim.Native.Nat.{ℕ, _+_, _-_}
 use lib.Dec.{ltb}
 use Rattle.words.specs.Notation.{_when_∣_}
 use Rattle.words.specs.Within.{within}
-
-abbrev pub lineFeed : ℕ
-lineFeed = 10
 
 -- "Both cases of letter are read": 0 to 9, A to F, a to f; 16 where a character is none of these
 unfoldable pub digitOf : ℕ → ℕ
@@ -18,3 +15,7 @@ isDigit c = ltb (digitOf c) 16
 -- "in capitals"
 unfoldable pub capital : ℕ → ℕ
 capital d = 48 + d when ltb d 10 ∣ 55 + d
+
+-- the capital of a letter from a to f, and every other character as it is
+abbrev pub upper : ℕ → ℕ
+upper c = c - 32 when within 97 102 c ∣ c

@@ -1,3 +1,4 @@
+pub mod Limits
 pub mod Digits
 pub mod Piece
 pub mod Reading

@@ -8,7 +8,8 @@ use lib.Dec.{eqb, leb, ltb}
 use lib.ListN.{length, drop}
 use Rattle.words.specs.Notation.{_when_∣_}
 use Rattle.sequence.specs.Piece.{Piece, stop, further, Fills}
-use Rattle.sequence.specs.Digits.{lineFeed, digitOf, isDigit}
+use Rattle.sequence.specs.Limits.{lineFeed, longest, modulus}
+use Rattle.sequence.specs.Digits.{digitOf, isDigit}
 use Rattle.sequence.specs.declared.reader.Refusal.{Refusal}
 use Rattle.sequence.specs.declared.reader.Refusal.the-variants.{BadCharacter, LineTooLong, WrongRemainder, MissingRemainder}
 use Rattle.sequence.specs.declared.reader.Verdict.{Verdict}
@@ -24,10 +25,6 @@ isRefused (Refused why place) = true
 -- before the first character
 abbrev pub beginning : Reader
 beginning = record { verdict = Sound; line = 0; column = 0; high = 0; holds = false; held = 0; sum = 0 }
-
--- the characters of 32 values
-abbrev pub longest : ℕ
-longest = 64
 
 -- so many characters of a line are whole values, and not none
 abbrev pub isWhole : ℕ → Bool
@@ -47,9 +44,9 @@ lineEnded r = record { verdict = r .verdict; line = (place r + 1) % 2 ^ 64; colu
 abbrev pub kept : Reader → Stepped
 kept r = record { reader = r; gives = false; value = 0 }
 
--- a value is handed out, and summed modulo 255
+-- a value is handed out, and summed
 abbrev pub added : ℕ → ℕ → ℕ
-added sum v = (sum + v) % 255
+added sum v = (sum + v) % modulus
 
 abbrev pub handed : Reader → ℕ → Stepped
 handed r v =
@@ -86,10 +83,10 @@ withDigit r d = firstDigit r d when eqb (r .column % 2) 0 ∣ secondDigit r (joi
 unfoldable pub stepOf : Reader → ℕ → Stepped
 stepOf r c =
     kept r when isRefused (r .verdict)
-  ∣ kept (lineEnded r) when eqb c lineFeed && isWhole (r .column)
-  ∣ kept (refused r BadCharacter) when not (isDigit c)
-  ∣ kept (refused r LineTooLong) when leb longest (r .column)
-  ∣ withDigit r (digitOf c)
+    ∣ kept (lineEnded r) when eqb c lineFeed && isWhole (r .column)
+    ∣ kept (refused r BadCharacter) when not (isDigit c)
+    ∣ kept (refused r LineTooLong) when leb longest (r .column)
+    ∣ withDigit r (digitOf c)
 
 abbrev pub next : Reader → ℕ → Reader
 next r c = stepOf r c .reader
@@ -111,8 +108,8 @@ unfoldable pub reading : ℕ → Reader → List ℕ → Piece Reader
 reading room r [] = stop r
 reading room r (c ∷ cs) =
     stop (next r c) when isRefused (next r c .verdict)
-  ∣ stop r when ltb room (length (given r c))
-  ∣ further 1 (given r c) (reading (room - length (given r c)) (next r c) cs)
+    ∣ stop r when ltb room (length (given r c))
+    ∣ further 1 (given r c) (reading (room - length (given r c)) (next r c) cs)
 
 abbrev pub Reads : Reader → List ℕ → List ℕ → List ℕ → ReadAnswer → Type 0
 Reads r text before after a = Fills (reading (length before) r text) before after (a .reader) (a .taken) (a .written)
@@ -123,18 +120,18 @@ back n at = (at + 2 ^ 64 - n) % 2 ^ 64
 
 -- what is held alone in the last line is the remainder. That line, two digits and a line feed, is behind
 abbrev pub remainderVerdict : Reader → Verdict
-remainderVerdict r = Sound when eqb (r .held) (r .sum % 255) ∣ Refused WrongRemainder (back 3 (r .line))
+remainderVerdict r = Sound when eqb (r .held) (r .sum % modulus) ∣ Refused WrongRemainder (back 3 (r .line))
 
 -- the text's end
 unfoldable pub endOf : Reader → Verdict
 endOf r =
     r .verdict when isRefused (r .verdict)
-  ∣ remainderVerdict r when eqb (r .column) 0 && r .holds
-  ∣ Refused MissingRemainder (r .line)
+    ∣ remainderVerdict r when eqb (r .column) 0 && r .holds
+    ∣ Refused MissingRemainder (r .line)
 
 -- where the value stands that was handed out last: in its line, or as the last of the line before, where one that is held back may stand between
 unfoldable pub lastPlace : Reader → ℕ
 lastPlace r =
     (r .line + (2 * (r .column / 2) - 2)) % 2 ^ 64 when leb 3 (r .column)
-  ∣ back 6 (r .line) when eqb (r .column) 0 && r .holds
-  ∣ back 3 (r .line)
+    ∣ back 6 (r .line) when eqb (r .column) 0 && r .holds
+    ∣ back 3 (r .line)

@@ -1,12 +1,13 @@
 -- What reading a whole text gives (docs/RULES.md, "The text of a sequence"): its values, or the first thing that is wrong with it and where.
 use mathlib.Core.Bool.{Bool, _&&_, not}
 use mathlib.Core.List.{List, [], _∷_, _++_}
-use Prim.Native.Nat.{ℕ, suc, _+_, _*_, _%_}
+use Prim.Native.Nat.{ℕ, suc, _+_, _*_, _%_, _<_}
 use lib.Dec.{eqb, leb}
-use lib.ListN.{length}
+use lib.ListN.{length, getD}
 use Rattle.words.specs.Notation.{_when_∣_}
-use Rattle.sequence.specs.Digits.{lineFeed, digitOf, isDigit}
-use Rattle.sequence.specs.Reading.{longest, isWhole}
+use Rattle.sequence.specs.Limits.{lineFeed, longest, modulus}
+use Rattle.sequence.specs.Digits.{digitOf, isDigit}
+use Rattle.sequence.specs.Reading.{isWhole}
 use Rattle.sequence.specs.declared.reader.Refusal.{Refusal}
 use Rattle.sequence.specs.declared.reader.Refusal.the-variants.{BadCharacter, LineTooLong, WrongRemainder, MissingRemainder}
 use Rattle.sequence.specs.declared.reader.Verdict.{Verdict}
@@ -28,7 +29,7 @@ sumOf [] = 0
 sumOf (v ∷ vs) = v + sumOf vs
 
 unfoldable pub remainder : List ℕ → ℕ
-remainder vs = sumOf vs % 255
+remainder vs = sumOf vs % modulus
 
 -- the first character that is wrong where it stands, at place p behind n others of its line: a line feed ends whole values, a digit has room in its line,
 -- nothing else is read. Where none is wrong, the rest decides
@@ -36,9 +37,9 @@ unfoldable pub characters : ℕ → ℕ → List ℕ → Outcome → Outcome
 characters p n [] rest = rest
 characters p n (c ∷ cs) rest =
     characters (suc p) 0 cs rest when eqb c lineFeed && isWhole n
-  ∣ Wrong BadCharacter p when not (isDigit c)
-  ∣ Wrong LineTooLong p when leb longest n
-  ∣ characters (suc p) (suc n) cs rest
+    ∣ Wrong BadCharacter p when not (isDigit c)
+    ∣ Wrong LineTooLong p when leb longest n
+    ∣ characters (suc p) (suc n) cs rest
 
 -- the lines without their line feeds; the last is what stands behind the last line feed
 unfoldable pub onto : ℕ → List (List ℕ) → List (List ℕ)
@@ -55,7 +56,7 @@ lines p vs [] = Wrong MissingRemainder p
 lines p vs (line ∷ []) = Wrong MissingRemainder p
 lines p vs (line ∷ behind ∷ more) =
     (Values vs when eqb (sumOf (valuesOf line)) (remainder vs) ∣ Wrong WrongRemainder p) when eqb (length line) 2 && eqb (length behind + length more) 0
-  ∣ lines (p + suc (length line)) (vs ++ valuesOf line) (behind ∷ more)
+    ∣ lines (p + suc (length line)) (vs ++ valuesOf line) (behind ∷ more)
 
 unfoldable pub readOf : List ℕ → Outcome
 readOf text = characters 0 0 text (lines 0 [] (linesOf text))
@@ -64,3 +65,7 @@ readOf text = characters 0 0 text (lines 0 [] (linesOf text))
 abbrev pub outcomeOf : List ℕ → Verdict → Outcome
 outcomeOf vs Sound = Values vs
 outcomeOf vs (Refused why place) = Wrong why place
+
+-- values that two digits hold
+pub record Octets (vs : List ℕ) : Type 0 where
+  pub short : (i : ℕ) → i < length vs → getD vs i 0 < 256

@@ -6,9 +6,10 @@ use Prim.Native.Nat.{ℕ, zero, suc, _+_, _/_, _%_}
 use lib.Dec.{eqb, leb, ltb}
 use lib.ListN.{length, getD, drop}
 use Rattle.words.specs.Notation.{_when_∣_}
-use Rattle.sequence.specs.Digits.{lineFeed, capital}
+use Rattle.sequence.specs.Limits.{lineFeed, longest, modulus}
+use Rattle.sequence.specs.Digits.{capital}
 use Rattle.sequence.specs.Piece.{Piece, stop, further, Fills}
-use Rattle.sequence.specs.Reading.{longest, added}
+use Rattle.sequence.specs.Reading.{added}
 use Rattle.sequence.specs.declared.writer.Stage.{Stage}
 use Rattle.sequence.specs.declared.writer.Stage.the-variants.{Values, Closing, Remainder, Done}
 use Rattle.sequence.specs.declared.writer.Writer.{Writer}
@@ -78,7 +79,7 @@ abbrev pub firstDigitOf : Writer → ℕ → Written
 firstDigitOf w v = record { character = capital (v / 16); writer = record { stage = w .stage; column = (w .column + 1) % 256; value = v; sum = added (w .sum) v } }
 
 abbrev pub remainderOf : Writer → Written
-remainderOf w = record { character = capital (w .sum % 255 / 16); writer = record { stage = Remainder; column = 1; value = w .sum % 255; sum = w .sum } }
+remainderOf w = record { character = capital (w .sum % modulus / 16); writer = record { stage = Remainder; column = 1; value = w .sum % modulus; sum = w .sum } }
 
 -- the next character, and the writer behind it; where the writer awaits a value it is v
 unfoldable pub nextOf : Writer → ℕ → Written
@@ -92,7 +93,7 @@ unfoldable pub writing : ℕ → Writer → List ℕ → Piece Writer
 writing zero w vs = stop w
 writing (suc room) w vs =
     stop w when isDone (w .stage) || (awaits w && eqb (length vs) 0)
-  ∣ further (takenBy w) (nextOf w (getD vs 0 0) .character ∷ []) (writing room (nextOf w (getD vs 0 0) .writer) (drop (takenBy w) vs))
+    ∣ further (takenBy w) (nextOf w (getD vs 0 0) .character ∷ []) (writing room (nextOf w (getD vs 0 0) .writer) (drop (takenBy w) vs))
 
 abbrev pub Writes : Writer → List ℕ → List ℕ → List ℕ → WriteAnswer → Type 0
 Writes w values before after a = Fills (writing (length before) w values) before after (a .writer) (a .taken) (a .written)

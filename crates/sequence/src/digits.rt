@@ -3,8 +3,6 @@ ghost use mathlib.Core.Path.{_≡_};
 ghost use Prim.Native.Nat.{_<_};
 ghost use Rattle.sequence.specs.Digits.{digitOf, capital};
 
-pub const LINE_FEED: u8 = 10;
-
 // What digit_of answers where there is none
 pub const NO_DIGIT: u8 = 16;
 

@@ -4,9 +4,10 @@ ghost use mathlib.Core.Path.{_≡_};
 ghost use Prim.Native.Nat.{_≤_};
 ghost use lib.Dec.{leb};
 ghost use lib.ListN.{length};
-ghost use Rattle.sequence.specs.Reading.{isRefused, beginning, added, Reads, back, remainderVerdict, endOf, lastPlace};
+ghost use Rattle.sequence.specs.Reading.{isRefused, beginning, Reads, back, remainderVerdict, endOf, lastPlace};
 ghost use Rattle.sequence.specs.Inner.{Puts};
 use crate::step::step;
+use crate::sum::remainder_of;
 
 pub enum Refusal {
     BadCharacter,
@@ -122,7 +123,7 @@ pub fn end(r: Reader) -> Verdict
 fn remainder_verdict(r: Reader) -> Verdict
     ensures { λ v. ⌜ v ≡ remainderVerdict r ⌝ }
 {
-    if r.held == r.sum % 255 {
+    if r.held == remainder_of(r.sum) {
         return Verdict::Sound;
     }
     Verdict::Refused(Refusal::WrongRemainder, back(3, r.line))
@@ -158,11 +159,4 @@ pub fn is_refused(verdict: Verdict) -> bool
         Verdict::Sound => false,
         Verdict::Refused(_, _) => true,
     }
-}
-
-// The sum with one value more
-pub fn added(sum: u8, value: u8) -> u8
-    ensures { λ s. ⌜ s ≡ added sum value ⌝ }
-{
-    (((sum as u16) + (value as u16)) % 255) as u8
 }

@@ -2,17 +2,15 @@
 ghost use mathlib.Core.Path.{_≡_};
 ghost use Prim.Native.Nat.{_<_};
 ghost use Rattle.sequence.specs.Reading.{isWhole, place, refused, lineEnded, kept, handed, firstDigit, secondDigit, joined, withDigit, stepOf};
-use crate::digits::LINE_FEED;
 use crate::digits::NO_DIGIT;
 use crate::digits::digit_of;
+use crate::limits::LINE_FEED;
+use crate::limits::LONGEST;
 use crate::reader::Reader;
 use crate::reader::Refusal;
 use crate::reader::Verdict;
-use crate::reader::added;
 use crate::reader::is_refused;
-
-// The characters of 32 values
-const LONGEST: u8 = 64;
+use crate::sum::added;
 
 pub struct Stepped {
     pub reader: Reader,

@@ -2,12 +2,11 @@
 ghost use mathlib.Core.Path.{_≡_};
 ghost use lib.ListN.{getD};
 ghost use Rattle.sequence.specs.Writing.{blank, closed, closing, behindLine, isValues, isClosing, isRemainder, isDone, awaits, endsLine, secondDigitOf, fedOf, firstDigitOf, remainderOf, nextOf, Writes};
-use crate::digits::LINE_FEED;
 use crate::digits::capital;
-use crate::reader::added;
-
-// The characters of 32 values
-const LONGEST: u8 = 64;
+use crate::limits::LINE_FEED;
+use crate::limits::LONGEST;
+use crate::sum::added;
+use crate::sum::remainder_of;
 
 // What is written: values; the rest of their last line; the remainder's line; nothing more
 pub enum Stage {
@@ -185,7 +184,7 @@ fn remainder_begun(w: Writer) -> Written
     ensures { λ r. ⌜ r ≡ remainderOf w ⌝ }
 {
     let stage = Stage::Remainder;
-    let value = w.sum % 255;
+    let value = remainder_of(w.sum);
     let writer = Writer {
         stage,
         column: 1,

@@ -1,3 +1,4 @@
+-- `sequence::digits::capital` meets its contract.
 use borrow.Author.Needs.{needs}
 use borrow.Author.Tests.{lt-ltb, le-ltb}
 use Rattle.sequence.specs.Digits.{capital}

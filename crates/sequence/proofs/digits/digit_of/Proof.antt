@@ -1,3 +1,4 @@
+-- `sequence::digits::digit_of` meets its contract.
 use borrow.Author.Needs.{needs}
 use Rattle.sequence.proofs.Characters.{digit-low, digit-decimal, digit-between, digit-capital, digit-amid, digit-small, digit-beyond}
 use Rattle.sequence.proofs.digits.digit_of.Statement.{statement}

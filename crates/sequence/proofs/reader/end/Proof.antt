@@ -1,3 +1,4 @@
+-- `sequence::reader::end` meets its contract.
 use borrow.Author.Needs.{needs}
 use mathlib.Core.Path.{_∙_}
 use Rattle.sequence.specs.Reading.{endOf}

@@ -1,3 +1,4 @@
+-- `sequence::reader::last_place` meets its contract.
 use borrow.Author.Needs.{needs}
 use mathlib.Core.Path.{_∙_}
 use borrow.Author.Tests.{le-leb, lt-leb}

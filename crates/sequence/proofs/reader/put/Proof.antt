@@ -1,3 +1,4 @@
+-- `sequence::reader::put` meets its contract.
 use borrow.Author.Needs.{needs}
 use mathlib.Core.Bool.{false}
 use mathlib.Core.Path.{_∙_}
@@ -12,7 +13,7 @@ slice-write-values : tie.Need-slice-write-values
 slice-write-values c = leb-false _ _ (rw (c .if1 .taken) at (c .before .pre))
 
 add-result : tie.Need-add-result
-add-result c = 
+add-result c =
     let h : c .before .args .at < length (c .before .args .values .now) = leb-false _ _ (rw (c .if1 .taken) at (c .before .pre)) in
     omega arith
 

@@ -1,3 +1,4 @@
+-- `sequence::step::first_digit` meets its contract.
 use borrow.Author.Needs.{needs}
 use mathlib.Core.Path.{_∙_}
 use Rattle.sequence.specs.Reading.{firstDigit}

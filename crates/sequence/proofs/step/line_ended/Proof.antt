@@ -1,10 +1,7 @@
+-- `sequence::step::line_ended` meets its contract.
 use borrow.Author.Needs.{needs}
 use Rattle.sequence.proofs.step.line_ended.Statement.{statement}
 use Rattle.sequence.proofs.step.line_ended.Tie as tie
-use Rattle.sequence.proofs.step.line_ended.Reads as reads
-use Rattle.sequence.proofs.step.line_ended.Lts as lts
-use Rattle.sequence.proofs.step.place_of.Reads as place-of-reads
-use Rattle.std.proofs.num.wrapping_add_u64.Reads as wrapping-add-u64-reads
 
 place-of-requires : tie.Need-place-of-requires
 place-of-requires c κs = search needs

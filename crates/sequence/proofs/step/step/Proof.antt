@@ -1,3 +1,4 @@
+-- `sequence::step::step` meets its contract.
 use borrow.Author.Needs.{needs}
 use mathlib.Core.Path.{sym, _∙_}
 use Rattle.sequence.proofs.Rows.{step-refused, step-line, step-bad, step-long, step-digit}

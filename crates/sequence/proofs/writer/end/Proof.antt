@@ -1,9 +1,7 @@
+-- `sequence::writer::end` meets its contract.
 use borrow.Author.Needs.{needs}
 use Rattle.sequence.proofs.writer.end.Statement.{statement}
 use Rattle.sequence.proofs.writer.end.Tie as tie
-use Rattle.sequence.proofs.writer.end.Reads as reads
-use Rattle.sequence.proofs.writer.end.Lts as lts
-use Rattle.sequence.proofs.writer.closed.Reads as closed-reads
 
 closed-requires : tie.Need-closed-requires
 closed-requires c κs = search needs

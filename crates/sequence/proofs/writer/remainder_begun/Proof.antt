@@ -1,9 +1,10 @@
+-- `sequence::writer::remainder_begun` meets its contract.
 use borrow.Author.Needs.{needs}
 use Rattle.sequence.proofs.writer.remainder_begun.Statement.{statement}
 use Rattle.sequence.proofs.writer.remainder_begun.Tie as tie
-use Rattle.sequence.proofs.writer.remainder_begun.Reads as reads
-use Rattle.sequence.proofs.writer.remainder_begun.Lts as lts
-use Rattle.sequence.proofs.digits.capital.Reads as capital-reads
+
+remainder-of-requires : tie.Need-remainder-of-requires
+remainder-of-requires c κs = search needs
 
 capital-requires : tie.Need-capital-requires
 capital-requires c κs = search needs
@@ -12,4 +13,4 @@ returns : tie.Need-returns
 returns c = cc
 
 pub remainder-begun-spec : {M : Type 1} → statement M
-remainder-begun-spec = tie.close (tie.spec capital-requires returns)
+remainder-begun-spec = tie.close (tie.spec remainder-of-requires capital-requires returns)

@@ -48,9 +48,9 @@ cast-taken : tie.Need-cast-taken Inv-loop μ-loop
 cast-taken c = search needs
 
 add-taken : tie.Need-add-taken Inv-loop μ-loop
-add-taken c = 
+add-taken c =
     let few : c .before .before .before .before .before .before .loop .taken + pick (c .before .before .before .before .awaits .result) 1 0 ≤ length (c .before .before .before .before .before .before .before .before .before .args .values .now) =
-        reached (c .before .before .before .is-done .result) (c .before .before .before .before .awaits .result) _ _ (c .before .before .before .before .before .before .loop .inv .within) (c .before .before .if1 .left) in
+    reached (c .before .before .before .is-done .result) (c .before .before .before .before .awaits .result) _ _ (c .before .before .before .before .before .before .loop .inv .within) (c .before .before .if1 .left) in
     omega (arith, as-number (c .before .before .before .before .awaits .result))
 
 loop-less : tie.Need-loop-less Inv-loop μ-loop
