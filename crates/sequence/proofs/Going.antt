@@ -1,7 +1,7 @@
 -- The reader's loop: so many characters are taken and so many values written, and a call on the rest of both makes the rest of the piece.
 use mathlib.Core.Bool.{Bool, true, false, _&&_}
 use mathlib.Core.List.{List, [], _∷_}
-use mathlib.Core.Path.{_≡_, sym, _∙_}
+use mathlib.Core.Path.{_≡_}
 use Prim.Native.Nat.{ℕ, suc, _+_, _-_, _≤_, _<_}
 use native.Mathlib.Nat.{sub-zero}
 use native.Mathlib.Numerals.{add-one}
@@ -11,8 +11,8 @@ use lib.ListN.{length, getD, drop, drop-of-length-le}
 use lib.Seq.{drop-cons}
 use borrow.Author.Tests.{leb-true, leb-false}
 use Rattle.words.specs.Notation.{pick}
-use Rattle.sequence.specs.Piece.{Piece, stop, further, Fills}
-use Rattle.sequence.specs.Reading.{isRefused, next, givenOf, given, stepOf, reading}
+use Rattle.sequence.specs.Piece.{further, Fills}
+use Rattle.sequence.specs.Reading.{isRefused, givenOf, given, stepOf, reading}
 use Rattle.sequence.specs.Inner.{Puts}
 use Rattle.sequence.specs.declared.reader.Reader.{Reader}
 use Rattle.sequence.specs.declared.step.Stepped.{Stepped}

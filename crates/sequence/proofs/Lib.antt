@@ -10,6 +10,7 @@ pub mod Onward
 pub mod Lines
 pub mod Standing
 pub mod Whole
+pub mod Fronts
 pub mod Capitals
 pub mod Octets
 pub mod Return

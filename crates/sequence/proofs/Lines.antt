@@ -1,19 +1,18 @@
 -- Laws of a text's lines: a line that is begun, lines that go on, digits two by two, and the sum with one value more.
 use mathlib.Core.Bool.{Bool, true, false, _&&_}
-use mathlib.Core.List.{List, [], _∷_, _++_, append-assoc}
-use mathlib.Core.Path.{_≡_, refl, sym, ap, _∙_}
-use Prim.Native.Nat.{ℕ, suc, _+_, _*_, _%_, _≤_, _<_}
+use mathlib.Core.List.{List, [], _∷_, _++_}
+use mathlib.Core.Path.{_≡_, refl, ap}
+use Prim.Native.Nat.{ℕ, suc, _+_, _*_, _%_, _<_}
 use native.Mathlib.Omega.{arith}
 use native.Mathlib.Nat.{not-suc-le-zero}
 use lib.Dec.{eqb}
 use lib.ListN.{length}
 use borrow.Author.Tests.{ne-eqb}
-use Rattle.words.specs.Notation.{_when_∣_}
 use Rattle.words.proofs.Pick.{by-pick}
 use Rattle.sequence.specs.Limits.{lineFeed}
 use Rattle.sequence.specs.Digits.{digitOf}
 use Rattle.sequence.specs.Reading.{added}
-use Rattle.sequence.specs.Text.{Outcome, valuesOf, sumOf, remainder, onto, linesOf, lines}
+use Rattle.sequence.specs.Text.{valuesOf, sumOf, remainder, onto, linesOf, lines}
 
 -- characters that stand in front of the first line
 unfoldable pub prefix : List ℕ → List (List ℕ) → List (List ℕ)

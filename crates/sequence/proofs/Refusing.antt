@@ -1,17 +1,16 @@
 -- A refused reader stays as it is, whatever follows, and hands nothing out; and the character that refuses it hands nothing out either.
 use mathlib.Core.Bool.{Bool, true, false, _&&_, not}
-use mathlib.Core.List.{List, [], _∷_, _++_}
-use mathlib.Core.Path.{_≡_, refl, ap, _∙_}
+use mathlib.Core.List.{List, [], _∷_}
+use mathlib.Core.Path.{_≡_, refl, ap}
 use Prim.Native.Nat.{ℕ, _%_}
 use native.Mathlib.Omega.{arith}
 use lib.Dec.{eqb, leb}
 use Rattle.words.specs.Notation.{pick}
-use Rattle.words.proofs.Pick.{by-pick, cases}
+use Rattle.words.proofs.Pick.{by-pick}
 use Rattle.lists.specs.Run.{last}
 use Rattle.sequence.specs.Limits.{lineFeed, longest}
 use Rattle.sequence.specs.Digits.{digitOf, isDigit}
-use Rattle.sequence.specs.Reading.{isRefused, isWhole, refused, lineEnded, kept, handed, firstDigit, secondDigit, joined, withDigit, stepOf, next, givenOf, given, handedOut, endOf}
-use Rattle.sequence.specs.declared.reader.Refusal.the-variants.{BadCharacter, LineTooLong}
+use Rattle.sequence.specs.Reading.{isRefused, isWhole, kept, firstDigit, secondDigit, withDigit, stepOf, next, givenOf, given, handedOut, endOf}
 use Rattle.sequence.specs.declared.reader.Reader.{Reader}
 use Rattle.sequence.specs.declared.step.Stepped.{Stepped}
 use Rattle.sequence.proofs.Rows.{step-refused}

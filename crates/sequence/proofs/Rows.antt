@@ -1,12 +1,12 @@
 -- The rows of a reader's step, one by one: what a character does, by the tests that lead to it.
 use mathlib.Core.Bool.{true, false, _&&_}
 use mathlib.Core.Path.{_≡_}
-use Prim.Native.Nat.{ℕ, _<_, _≤_, _%_}
+use Prim.Native.Nat.{ℕ, _<_, _≤_}
 use lib.Dec.{eqb}
-use borrow.Author.Tests.{le-leb, lt-leb, lt-ltb, le-ltb, eq-eqb, ne-eqb}
+use borrow.Author.Tests.{le-leb, lt-leb, lt-ltb, le-ltb}
 use Rattle.sequence.specs.Limits.{lineFeed, longest}
 use Rattle.sequence.specs.Digits.{digitOf}
-use Rattle.sequence.specs.Reading.{isRefused, isWhole, refused, lineEnded, kept, handed, firstDigit, secondDigit, joined, withDigit, stepOf}
+use Rattle.sequence.specs.Reading.{isRefused, isWhole, refused, lineEnded, kept, withDigit, stepOf}
 use Rattle.sequence.specs.declared.reader.Refusal.the-variants.{BadCharacter, LineTooLong}
 use Rattle.sequence.specs.declared.reader.Reader.{Reader}
 

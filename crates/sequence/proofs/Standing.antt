@@ -5,22 +5,20 @@ use mathlib.Core.List.{List, [], _∷_, _++_, append-assoc, append-nil}
 use mathlib.Core.Path.{_≡_, refl, sym, ap, subst, _∙_}
 use Prim.Native.Nat.{ℕ, suc, _+_, _*_, _-_, _%_, _^_, _≤_, _<_}
 use native.Mathlib.Omega.{arith}
-use lib.Dec.{eqb, leb}
+use lib.Dec.{eqb}
 use lib.ListN.{length, length-append}
-use borrow.Author.Tests.{eqb-true, eqb-false, eq-eqb, ne-eqb, leb-true, lt-leb}
+use borrow.Author.Tests.{eqb-true, eqb-false, eq-eqb, ne-eqb}
 use Rattle.words.specs.Notation.{pick}
-use Rattle.words.proofs.Rows.{both}
 use Rattle.words.proofs.Pick.{cases}
 use Rattle.sequence.specs.Limits.{lineFeed}
 use Rattle.sequence.specs.Digits.{digitOf}
-use Rattle.sequence.specs.Reading.{isRefused, isWhole, place, refused, lineEnded, kept, handed, begun, firstDigit, heldBack, completed, secondDigit, joined, withDigit, givenOf, added, back, endOf}
+use Rattle.sequence.specs.Reading.{kept, handed, begun, firstDigit, heldBack, completed, secondDigit, joined, withDigit, givenOf, added, back, endOf}
 use Rattle.sequence.specs.Text.{Outcome, outcomeOf, Values, Wrong, valuesOf, sumOf, remainder, onto, linesOf, lines}
-use Rattle.sequence.specs.declared.reader.Refusal.{Refusal}
 use Rattle.sequence.specs.declared.reader.Refusal.the-variants.{WrongRemainder}
 use Rattle.sequence.specs.declared.reader.Verdict.the-variants.{Sound, Refused}
 use Rattle.sequence.specs.declared.reader.Reader.{Reader}
 use Rattle.sequence.specs.declared.step.Stepped.{Stepped}
-use Rattle.sequence.proofs.Lines.{prefix, prefix-line, prefix-snoc, lines-some, isEnd, onto-no-end, length-onto, lines-on, Pairs, none, more, pairs-even, pairs-snoc, values-snoc, remainder-snoc}
+use Rattle.sequence.proofs.Lines.{prefix, prefix-line, prefix-snoc, lines-some, onto-no-end, length-onto, lines-on, Pairs, none, pairs-even, pairs-snoc, values-snoc, remainder-snoc}
 
 -- the reader is sound, p characters are behind it, n of them in its line, and it has handed out the values H
 pub record Position (r : Reader) (H : List ℕ) (p n : ℕ) : Type 0 where

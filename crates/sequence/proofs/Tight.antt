@@ -1,8 +1,8 @@
 -- What holds of every answer of read and write: the contract leaves no choice, what is reported fits what was lent, and a call with room gets on.
 use mathlib.Core.Bool.{Bool, true, false}
-use mathlib.Core.List.{List, [], _∷_, _++_}
-use mathlib.Core.Path.{_≡_, refl, sym, ap, _∙_}
-use Prim.Native.Nat.{ℕ, zero, suc, _+_, _-_, _≤_, _<_}
+use mathlib.Core.List.{List, [], _∷_}
+use mathlib.Core.Path.{_≡_, sym, ap, _∙_}
+use Prim.Native.Nat.{ℕ, _-_, _≤_, _<_}
 use native.Mathlib.Decide.{decLe}
 use native.Mathlib.Omega.{arith}
 use lib.ListN.{length, length-append}
@@ -10,7 +10,7 @@ use Rattle.words.specs.Notation.{pick}
 use Rattle.words.proofs.Pick.{cases, by-pick}
 use Rattle.sequence.specs.Piece.{Piece, stop, further, Fills}
 use Rattle.sequence.specs.Reading.{isRefused, stepOf, next, givenOf, given, reading, Reads}
-use Rattle.sequence.specs.Writing.{writing, Writes}
+use Rattle.sequence.specs.Writing.{Writes}
 use Rattle.sequence.specs.declared.reader.Reader.{Reader}
 use Rattle.sequence.specs.declared.reader.ReadAnswer.{ReadAnswer}
 use Rattle.sequence.specs.declared.step.Stepped.{Stepped}

@@ -1,21 +1,21 @@
 -- The step, run over a whole text, finds what the definition of the whole text says.
-use mathlib.Core.Bool.{Bool, true, false, _&&_}
+use mathlib.Core.Bool.{true, false, _&&_}
 use mathlib.Core.List.{List, [], _∷_, _++_, append-assoc, append-nil}
-use mathlib.Core.Path.{_≡_, refl, sym, ap, subst, _∙_}
+use mathlib.Core.Path.{_≡_, refl, sym, ap, _∙_}
 use Prim.Native.Nat.{ℕ, suc, _+_, _%_, _^_, _≤_, _<_}
 use native.Mathlib.Decide.{decLe}
 use native.Mathlib.Omega.{arith}
-use lib.Dec.{eqb, leb, ltb}
+use lib.Dec.{eqb, leb}
 use lib.ListN.{length}
-use borrow.Author.Tests.{eqb-true, eqb-false, eq-eqb, ne-eqb, leb-true, le-leb, lt-leb, lt-ltb, le-ltb}
+use borrow.Author.Tests.{eqb-true, eq-eqb, leb-true, le-leb, lt-leb, lt-ltb, le-ltb}
 use Rattle.words.proofs.Rows.{both}
 use Rattle.words.proofs.Pick.{cases}
 use Rattle.lists.specs.Run.{last}
-use Rattle.sequence.specs.Limits.{lineFeed, longest}
+use Rattle.sequence.specs.Limits.{lineFeed}
 use Rattle.sequence.specs.Digits.{digitOf}
 use Rattle.sequence.specs.Piece.{Offer, session}
-use Rattle.sequence.specs.Reading.{isRefused, isWhole, place, refused, lineEnded, kept, withDigit, stepOf, next, givenOf, given, handedOut, beginning, reading, endOf}
-use Rattle.sequence.specs.Text.{Outcome, outcomeOf, Values, Wrong, valuesOf, sumOf, remainder, linesOf, lines, characters, readOf}
+use Rattle.sequence.specs.Reading.{isRefused, isWhole, place, refused, lineEnded, kept, withDigit, stepOf, next, givenOf, handedOut, beginning, reading, endOf}
+use Rattle.sequence.specs.Text.{Outcome, outcomeOf, Wrong, valuesOf, sumOf, remainder, linesOf, lines, characters, readOf}
 use Rattle.sequence.specs.declared.reader.Refusal.{Refusal}
 use Rattle.sequence.specs.declared.reader.Refusal.the-variants.{BadCharacter, LineTooLong}
 use Rattle.sequence.specs.declared.reader.Reader.{Reader}
@@ -23,8 +23,8 @@ use Rattle.sequence.specs.declared.step.Stepped.{Stepped}
 use Rattle.sequence.proofs.Characters.{digit-no-feed}
 use Rattle.sequence.proofs.Rows.{step-line, step-bad, step-long, step-digit}
 use Rattle.sequence.proofs.Refusing.{refused-last, refused-end}
-use Rattle.sequence.proofs.Lines.{prefix, prefix-line, lines-some, isEnd, lines-on, none, pairs-even}
-use Rattle.sequence.proofs.Standing.{Position, Even, Odd, Alone, Stands, even, odd, alone, position, stands-end, stands-digit}
+use Rattle.sequence.proofs.Lines.{prefix, prefix-line, lines-some, lines-on, none, pairs-even}
+use Rattle.sequence.proofs.Standing.{Position, Even, Stands, even, odd, alone, position, stands-end, stands-digit}
 use Rattle.sequence.proofs.Onward.{isThrough, through-made, through-ends}
 
 -- a line feed behind whole values

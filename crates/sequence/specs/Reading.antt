@@ -2,10 +2,9 @@
 -- hands out, what a run of characters gives, a call on a piece of the text, and the text's end. Any reader may be handed in.
 use mathlib.Core.Bool.{Bool, true, false, _&&_, not}
 use mathlib.Core.List.{List, [], _∷_, _++_}
-use mathlib.Core.Path.{_≡_}
-use Prim.Native.Nat.{ℕ, suc, _+_, _*_, _-_, _/_, _%_, _^_}
+use Prim.Native.Nat.{ℕ, _+_, _*_, _-_, _/_, _%_, _^_}
 use lib.Dec.{eqb, leb, ltb}
-use lib.ListN.{length, drop}
+use lib.ListN.{length}
 use Rattle.words.specs.Notation.{_when_∣_}
 use Rattle.sequence.specs.Piece.{Piece, stop, further, Fills}
 use Rattle.sequence.specs.Limits.{lineFeed, longest, modulus}

@@ -1,5 +1,5 @@
 -- What reading a whole text gives (docs/RULES.md, "The text of a sequence"): its values, or the first thing that is wrong with it and where.
-use mathlib.Core.Bool.{Bool, _&&_, not}
+use mathlib.Core.Bool.{_&&_, not}
 use mathlib.Core.List.{List, [], _∷_, _++_}
 use Prim.Native.Nat.{ℕ, suc, _+_, _*_, _%_, _<_}
 use lib.Dec.{eqb, leb}

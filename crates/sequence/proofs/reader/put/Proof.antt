@@ -1,7 +1,5 @@
 -- `sequence::reader::put` meets its contract.
 use borrow.Author.Needs.{needs}
-use mathlib.Core.Bool.{false}
-use mathlib.Core.Path.{_∙_}
 use borrow.Author.Tests.{leb-false}
 use native.Mathlib.Omega.{arith}
 use Prim.Native.Nat.{_<_}

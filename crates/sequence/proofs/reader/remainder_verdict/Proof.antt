@@ -1,6 +1,5 @@
 -- `sequence::reader::remainder_verdict` meets its contract.
 use borrow.Author.Needs.{needs}
-use mathlib.Core.Path.{sym, _∙_}
 use borrow.Author.Tests.{eq-eqb, ne-eqb}
 use Rattle.sequence.proofs.reader.remainder_verdict.Statement.{statement}
 use Rattle.sequence.proofs.reader.remainder_verdict.Tie as tie
