@@ -1,7 +1,8 @@
 //! The second codec's answers: to one call, and to a text of lines as the proved program gives them.
 
-use crate::call::Call;
+use crate::call::{Call, Decode, Drop, Encode, Read, Write};
 use crate::fields::{write_octets, write_state};
+use crate::text_fields::{write_reader, write_word, write_writer};
 use second::calls;
 use second::g711::{expand, one_down, one_up};
 
@@ -40,30 +41,57 @@ pub fn answer_to(call: &Call) -> String {
             let a = calls::reset(*core);
             format!("{} {} {}", a.number, a.octets, write_state(&a.state))
         }
-        Call::Encode(c) => {
-            let mut out = c.out.clone();
-            let a = calls::encode(c.state, c.law, c.width, &c.samples, &mut out);
-            let (out, state) = (write_octets(&out), write_state(&a.state));
-            format!("{} {} {out} {state}", a.number, a.octets)
-        }
-        Call::Decode(c) => {
-            let mut out = c.out.clone();
-            let a = calls::decode(c.state, c.law, &c.frame, &mut out);
-            let (out, state) = (write_octets(&out), write_state(&a.state));
-            format!("{} {} {} {out} {state}", a.number, a.octets, a.moved)
-        }
-        Call::Drop(c) => {
-            let mut out = c.out.clone();
-            let a = calls::drop_planes(&c.frame, c.width, &mut out);
-            format!("{} {} {}", a.number, a.octets, write_octets(&out))
-        }
+        Call::Encode(c) => to_encode(c),
+        Call::Decode(c) => to_decode(c),
+        Call::Drop(c) => to_drop(c),
         // EXPAND's level has 14 bits in two's complement.
         Call::Level(law, octet) => {
             let level = expand(*law, *octet).rem_euclid(16_384);
             let (above, below) = (one_up(*law, *octet), one_down(*law, *octet));
             format!("{level} {above} {below}")
         }
+        Call::Read(c) => to_read(c),
+        Call::EndText(reader) => {
+            let verdict = reader.end();
+            format!("{} {}", verdict.number(), write_word(verdict.place()))
+        }
+        Call::Write(c) => to_write(c),
+        Call::EndValues(writer) => write_writer(&writer.end()),
     }
+}
+
+fn to_encode(c: &Encode) -> String {
+    let mut out = c.out.clone();
+    let a = calls::encode(c.state, c.law, c.width, &c.samples, &mut out);
+    let (out, state) = (write_octets(&out), write_state(&a.state));
+    format!("{} {} {out} {state}", a.number, a.octets)
+}
+
+fn to_decode(c: &Decode) -> String {
+    let mut out = c.out.clone();
+    let a = calls::decode(c.state, c.law, &c.frame, &mut out);
+    let (out, state) = (write_octets(&out), write_state(&a.state));
+    format!("{} {} {} {out} {state}", a.number, a.octets, a.moved)
+}
+
+fn to_drop(c: &Drop) -> String {
+    let mut out = c.out.clone();
+    let a = calls::drop_planes(&c.frame, c.width, &mut out);
+    format!("{} {} {}", a.number, a.octets, write_octets(&out))
+}
+
+fn to_read(c: &Read) -> String {
+    let mut values = c.values.clone();
+    let a = c.reader.read(&c.text, &mut values);
+    let (values, reader) = (write_octets(&values), write_reader(&a.reader));
+    format!("{} {} {values} {reader}", a.taken, a.written)
+}
+
+fn to_write(c: &Write) -> String {
+    let mut text = c.text.clone();
+    let a = c.writer.write(&c.values, &mut text);
+    let (text, writer) = (write_octets(&text), write_writer(&a.writer));
+    format!("{} {} {text} {writer}", a.taken, a.written)
 }
 
 #[cfg(test)]

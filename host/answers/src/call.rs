@@ -1,9 +1,13 @@
 //! A call as a line has it: its word and its fields.
 
-use crate::fields::{number, octets, state, write_octets, write_state};
+use crate::fields::number;
+use crate::line::{Fields, Unread};
+use crate::text_fields::{reader, write_reader, write_writer, writer};
 use second::g711::Law;
-use second::state::State;
+use second::text::{Reader, Writer};
 use std::fmt;
+
+pub use crate::given::{Decode, Drop, Encode, Read, Write};
 
 #[derive(Clone, Debug, PartialEq, Eq)]
 pub enum Call {
@@ -13,69 +17,10 @@ pub enum Call {
     Drop(Drop),
     /// No public call: EXPAND of an octet, and its neighbours.
     Level(Law, u8),
-}
-
-#[derive(Clone, Debug, PartialEq, Eq)]
-pub struct Encode {
-    pub state: State,
-    pub law: u8,
-    pub width: u8,
-    pub samples: Vec<u8>,
-    pub out: Vec<u8>,
-}
-
-#[derive(Clone, Debug, PartialEq, Eq)]
-pub struct Decode {
-    pub state: State,
-    pub law: u8,
-    pub frame: Vec<u8>,
-    pub out: Vec<u8>,
-}
-
-#[derive(Clone, Debug, PartialEq, Eq)]
-pub struct Drop {
-    pub frame: Vec<u8>,
-    pub width: u8,
-    pub out: Vec<u8>,
-}
-
-/// Why a line is no call. Fields are counted from 1, which is the call's word.
-#[derive(Clone, Copy, Debug, PartialEq, Eq)]
-pub enum Unread {
-    NoSuchCall,
-    Field(usize),
-    TooMany(usize),
-}
-
-impl fmt::Display for Unread {
-    fn fmt(&self, f: &mut fmt::Formatter) -> fmt::Result {
-        match self {
-            Unread::NoSuchCall => write!(f, "no such call"),
-            Unread::Field(place) => write!(f, "cannot be read: field {place}"),
-            Unread::TooMany(place) => write!(f, "too many: field {place}"),
-        }
-    }
-}
-
-/// The fields of one line, taken from the left.
-struct Fields<'a> {
-    rest: std::str::Split<'a, char>,
-    taken: usize,
-}
-
-impl Fields<'_> {
-    fn take<T>(&mut self, read: impl Fn(&str) -> Option<T>) -> Result<T, Unread> {
-        self.taken += 1;
-        let field = self.rest.next().and_then(read);
-        field.ok_or(Unread::Field(self.taken))
-    }
-
-    fn end(&mut self) -> Result<(), Unread> {
-        match self.rest.next() {
-            None => Ok(()),
-            Some(_) => Err(Unread::TooMany(self.taken + 1)),
-        }
-    }
+    Read(Read),
+    EndText(Reader),
+    Write(Write),
+    EndValues(Writer),
 }
 
 fn law(text: &str) -> Option<Law> {
@@ -84,34 +29,25 @@ fn law(text: &str) -> Option<Law> {
 
 impl Call {
     pub fn read(line: &str) -> Result<Call, Unread> {
-        let mut rest = line.split(' ');
-        let word = rest.next().unwrap_or_default();
-        let mut fields = Fields { rest, taken: 1 };
-        let call = match word {
-            "reset" => Call::Reset(fields.take(number)?),
-            "encode" => Call::Encode(Encode {
-                state: fields.take(state)?,
-                law: fields.take(number)?,
-                width: fields.take(number)?,
-                samples: fields.take(octets)?,
-                out: fields.take(octets)?,
-            }),
-            "decode" => Call::Decode(Decode {
-                state: fields.take(state)?,
-                law: fields.take(number)?,
-                frame: fields.take(octets)?,
-                out: fields.take(octets)?,
-            }),
-            "drop" => Call::Drop(Drop {
-                frame: fields.take(octets)?,
-                width: fields.take(number)?,
-                out: fields.take(octets)?,
-            }),
-            "level" => Call::Level(fields.take(law)?, fields.take(number)?),
-            _ => return Err(Unread::NoSuchCall),
-        };
+        let (word, mut fields) = Fields::of(line);
+        let call = Call::take(word, &mut fields)?;
         fields.end()?;
         Ok(call)
+    }
+
+    fn take(word: &str, fields: &mut Fields) -> Result<Call, Unread> {
+        Ok(match word {
+            "reset" => Call::Reset(fields.take(number)?),
+            "encode" => Call::Encode(Encode::take(fields)?),
+            "decode" => Call::Decode(Decode::take(fields)?),
+            "drop" => Call::Drop(Drop::take(fields)?),
+            "level" => Call::Level(fields.take(law)?, fields.take(number)?),
+            "read" => Call::Read(Read::take(fields)?),
+            "end_text" => Call::EndText(fields.take(reader)?),
+            "write" => Call::Write(Write::take(fields)?),
+            "end_values" => Call::EndValues(fields.take(writer)?),
+            _ => return Err(Unread::NoSuchCall),
+        })
     }
 
     /// The call's word.
@@ -122,6 +58,10 @@ impl Call {
             Call::Decode(_) => "decode",
             Call::Drop(_) => "drop",
             Call::Level(..) => "level",
+            Call::Read(_) => "read",
+            Call::EndText(_) => "end_text",
+            Call::Write(_) => "write",
+            Call::EndValues(_) => "end_values",
         }
     }
 }
@@ -131,20 +71,14 @@ impl fmt::Display for Call {
         write!(f, "{} ", self.word())?;
         match self {
             Call::Reset(core) => write!(f, "{core}"),
-            Call::Encode(c) => {
-                let (samples, out) = (write_octets(&c.samples), write_octets(&c.out));
-                let state = write_state(&c.state);
-                write!(f, "{state} {} {} {samples} {out}", c.law, c.width)
-            }
-            Call::Decode(c) => {
-                let (frame, out) = (write_octets(&c.frame), write_octets(&c.out));
-                write!(f, "{} {} {frame} {out}", write_state(&c.state), c.law)
-            }
-            Call::Drop(c) => {
-                let (frame, out) = (write_octets(&c.frame), write_octets(&c.out));
-                write!(f, "{frame} {} {out}", c.width)
-            }
+            Call::Encode(given) => given.fmt(f),
+            Call::Decode(given) => given.fmt(f),
+            Call::Drop(given) => given.fmt(f),
             Call::Level(law, octet) => write!(f, "{} {octet}", law.number()),
+            Call::Read(given) => given.fmt(f),
+            Call::EndText(reader) => f.write_str(&write_reader(reader)),
+            Call::Write(given) => given.fmt(f),
+            Call::EndValues(writer) => f.write_str(&write_writer(writer)),
         }
     }
 }
@@ -154,6 +88,7 @@ mod tests {
     use super::*;
 
     const STATE: &str = "544,34816,0,0,0,0,0,0,0,0,0,0,0,32,32,32,32,32,32,32,32,0,0,0,2";
+    const READER: &str = "1,0000000000000003,0000000000000000,2,1,1,18,0";
 
     #[test]
     fn a_call_is_read_as_it_is_written() {
@@ -163,6 +98,10 @@ mod tests {
             format!("decode {STATE} 255 - 00"),
             "drop 6a01 3 000000".to_string(),
             "level 1 213".to_string(),
+            format!("read {READER} 30310a ee"),
+            format!("end_text {READER}"),
+            "write 0,2,1,1 ff -".to_string(),
+            "end_values 3,255,0,254".to_string(),
         ] {
             assert_eq!(Call::read(&line).unwrap().to_string(), line);
         }
@@ -184,6 +123,13 @@ mod tests {
             ("drop 6A01 3 -", Unread::Field(2)),
             ("drop 6a0 x -", Unread::Field(2)),
             ("level 2 0", Unread::Field(2)),
+            ("read 0 30 -", Unread::Field(2)),
+            ("end_text", Unread::Field(2)),
+            ("endtext 0", Unread::NoSuchCall),
+            ("write 0,0,0,0 0 -", Unread::Field(3)),
+            ("write 0,0,0,0 00", Unread::Field(4)),
+            ("end_values 0,0,0,0 0", Unread::TooMany(3)),
+            ("end_values 4,0,0,0", Unread::Field(2)),
         ] {
             assert_eq!(Call::read(line), Err(wrong), "{line}");
         }

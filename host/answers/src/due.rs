@@ -2,7 +2,9 @@
 
 use crate::call::Call;
 use crate::fields::{octets, state, write_octets, write_state};
+use crate::text_due;
 use second::state::State;
+use second::text::Verdict;
 
 #[derive(Clone, Debug)]
 pub enum Due {
@@ -17,6 +19,11 @@ pub enum Due {
     First(u8),
     /// EXPAND's word, the octet above and the octet below, where the rules have them.
     Level(Option<u16>, Option<u8>, Option<u8>),
+    /// So many characters are taken, and these values are handed out.
+    Read(usize, Vec<u8>),
+    Verdict(Verdict),
+    /// So many values are taken, and these characters are written.
+    Written(usize, Vec<u8>),
 }
 
 /// An answer taken apart; what a call's answer does not have is 0, empty or none.
@@ -29,7 +36,7 @@ pub struct Parts {
     pub state: Option<State>,
 }
 
-/// What stands behind the equals sign of one of the four public calls.
+/// What stands behind the equals sign of one of the codec's four public calls.
 pub fn parts(call: &Call, answer: &str) -> Result<Parts, String> {
     let told = || format!("cannot be read: {answer}");
     let fields: Vec<&str> = answer.split(' ').collect();
@@ -58,8 +65,12 @@ pub fn parts(call: &Call, answer: &str) -> Result<Parts, String> {
 impl Due {
     /// Whether the answer is as it has to be, and else what is wrong with it.
     pub fn hold(&self, call: &Call, answer: &str) -> Result<(), String> {
-        if let Call::Level(..) = call {
-            return self.hold_level(answer);
+        match call {
+            Call::Level(..) => return self.hold_level(answer),
+            Call::Read(_) | Call::EndText(_) | Call::Write(_) | Call::EndValues(_) => {
+                return text_due::hold(self, call, answer)
+            }
+            Call::Reset(_) | Call::Encode(_) | Call::Decode(_) | Call::Drop(_) => {}
         }
         let found = parts(call, answer)?;
         hold_always(call, &found)?;
@@ -77,7 +88,7 @@ impl Due {
                 same("number", &found.number, &0)?;
                 same("first codeword", &first_codeword(&found.out), codeword)
             }
-            Due::Open | Due::Level(..) => Ok(()),
+            _ => Ok(()),
         }
     }
 
@@ -101,7 +112,7 @@ fn first_codeword(frame: &[u8]) -> u8 {
         .fold(0, |bits, octet| 2 * bits + octet / 128)
 }
 
-fn same<T: PartialEq + std::fmt::Debug>(what: &str, found: &T, due: &T) -> Result<(), String> {
+pub fn same<T: PartialEq + std::fmt::Debug>(what: &str, found: &T, due: &T) -> Result<(), String> {
     if found == due {
         return Ok(());
     }
@@ -133,7 +144,7 @@ fn hold_always(call: &Call, found: &Parts) -> Result<(), String> {
     }
 }
 
-fn at_most(what: &str, found: usize, most: usize) -> Result<(), String> {
+pub fn at_most(what: &str, found: usize, most: usize) -> Result<(), String> {
     if found <= most {
         return Ok(());
     }
@@ -146,7 +157,7 @@ fn handed_in(call: &Call) -> (&[u8], Option<State>) {
         Call::Encode(c) => (&c.out, Some(c.state)),
         Call::Decode(c) => (&c.out, Some(c.state)),
         Call::Drop(c) => (&c.out, None),
-        Call::Reset(_) | Call::Level(..) => (&[], None),
+        _ => (&[], None),
     }
 }
 
@@ -156,6 +167,6 @@ fn due_octets(call: &Call) -> usize {
         Call::Encode(c) => 2 + usize::from(c.width) * (c.samples.len() / 8),
         Call::Decode(c) => 8 * usize::from(c.frame[1]),
         Call::Drop(c) => 2 + usize::from(c.width) * usize::from(c.frame[1]),
-        Call::Reset(_) | Call::Level(..) => 0,
+        _ => 0,
     }
 }

@@ -6,10 +6,14 @@ pub mod answer;
 pub mod call;
 pub mod due;
 pub mod fields;
+pub mod given;
 pub mod groups;
+pub mod line;
 pub mod page;
 pub mod report;
 pub mod stored;
+pub mod text_due;
+pub mod text_fields;
 
 pub use answer::answer;
 pub use stored::{ANSWERED, ASKED};

@@ -155,6 +155,14 @@ fn a_transition_at_yl_262144() {
     assert_eq!(answer.state.map(|s| s.ap), Some(347));
 }
 
+/// One of the four public calls of the codec.
+fn is_of_codec(call: &Call) -> bool {
+    matches!(
+        call,
+        Call::Reset(_) | Call::Encode(_) | Call::Decode(_) | Call::Drop(_)
+    )
+}
+
 /// What the calls that were done stand for: both laws with all nine pairs, every thinning, tones and moved octets.
 #[test]
 fn the_calls_are_many_sided() {
@@ -165,8 +173,9 @@ fn the_calls_are_many_sided() {
         .iter()
         .enumerate()
         .filter_map(|(place, item)| match item {
-            Item::Call(Call::Level(..), _) => None,
-            Item::Call(call, _) => Some((call, parts(call, stored.answer(place)).unwrap())),
+            Item::Call(call, _) if is_of_codec(call) => {
+                Some((call, parts(call, stored.answer(place)).unwrap()))
+            }
             _ => None,
         });
     let done: Vec<_> = calls.filter(|(_, answer)| answer.number == 0).collect();

@@ -1,6 +1,7 @@
 //! Lines that are no calls: each gets a comment with its number and what is wrong with it.
 
 use super::parts::{encode, room};
+use super::text_lines;
 use crate::answer::LONGEST;
 use crate::call::Call;
 use crate::due::Due;
@@ -18,11 +19,12 @@ pub fn lines(page: &mut Page) {
     numbers(page);
     octets(page);
     states(page);
+    text_lines::text_lines(page);
     long(page);
     last(page);
 }
 
-fn unread(page: &mut Page, field: usize, line: &str) {
+pub fn unread(page: &mut Page, field: usize, line: &str) {
     page.other(line, format!("# line N: cannot be read: field {field}"));
 }
 

@@ -5,7 +5,9 @@ use crate::page::Page;
 
 mod again;
 mod buffers;
+mod cuts;
 mod drawn;
+mod drawn_texts;
 mod limits;
 mod lines;
 mod order;
@@ -15,51 +17,65 @@ mod poles;
 mod products;
 mod quantizing;
 mod ranges;
+mod readers;
 mod replies;
 mod speed;
 mod states;
 mod streams;
+mod text_lines;
+mod text_parts;
+mod texts;
 mod transitions;
 mod widths;
 mod worked;
+mod writers;
+mod written;
 mod zeros;
+
+const GROUPS: [fn(&mut Page); 38] = [
+    worked::frames,
+    worked::first_bytes,
+    worked::levels,
+    limits::limits,
+    replies::replies,
+    order::order,
+    buffers::buffers,
+    again::again,
+    ranges::ranges,
+    widths::copies,
+    widths::dropped,
+    widths::changed,
+    widths::halves,
+    streams::streams,
+    streams::jumps,
+    streams::held,
+    quantizing::thresholds,
+    quantizing::logarithms,
+    quantizing::codewords,
+    speed::mixing,
+    speed::scales,
+    speed::averages,
+    products::coefficients,
+    products::sums,
+    zeros::zeros,
+    poles::poles,
+    poles::tones,
+    transitions::transitions,
+    output_path::decisions,
+    output_path::synchronous,
+    drawn::drawn,
+    texts::texts,
+    cuts::cuts,
+    drawn_texts::drawn_texts,
+    readers::readers,
+    written::written,
+    writers::writers,
+    lines::lines,
+];
 
 pub fn all() -> Page {
     let mut page = Page::default();
-    for group in [
-        worked::frames,
-        worked::first_bytes,
-        worked::levels,
-        limits::limits,
-        replies::replies,
-        order::order,
-        buffers::buffers,
-        again::again,
-        ranges::ranges,
-        widths::copies,
-        widths::dropped,
-        widths::changed,
-        widths::halves,
-        streams::streams,
-        streams::jumps,
-        streams::held,
-        quantizing::thresholds,
-        quantizing::logarithms,
-        quantizing::codewords,
-        speed::mixing,
-        speed::scales,
-        speed::averages,
-        products::coefficients,
-        products::sums,
-        zeros::zeros,
-        poles::poles,
-        poles::tones,
-        transitions::transitions,
-        output_path::decisions,
-        output_path::synchronous,
-        drawn::drawn,
-        lines::lines,
-    ] {
+    for group in GROUPS {
         group(&mut page);
     }
     page

@@ -1,0 +1,90 @@
+//! Drawn texts: good ones, nearly good ones, garbage over a small alphabet.
+
+use random::Random;
+use second::text::write_whole;
+
+/// So few values that lines of 32 are still met.
+pub fn values(random: &mut Random) -> Vec<u8> {
+    let count = match random.below(8) {
+        0 => random.within(30, 34),
+        1 => random.within(62, 66),
+        _ => random.below(7),
+    };
+    match random.below(3) {
+        0 => (0..count).map(|_| random.pick(&[0, 1, 254, 255])).collect(),
+        _ => random.bytes(count as usize),
+    }
+}
+
+/// A right text: lines of any length, digits of either case.
+pub fn good(random: &mut Random) -> Vec<u8> {
+    let plain = write_whole(&values(random));
+    let mut digits: Vec<u8> = plain.into_iter().filter(|&c| c != b'\n').collect();
+    let remainder = digits.split_off(digits.len() - 2);
+    let most = random.pick(&[1, 2, 3, 32]);
+    let mut text = Vec::new();
+    let mut rest = digits.as_slice();
+    while !rest.is_empty() {
+        let length = 2 * (1 + random.below(most)) as usize;
+        let (line, behind) = rest.split_at(length.min(rest.len()));
+        text.extend(line);
+        text.push(b'\n');
+        rest = behind;
+    }
+    text.extend(remainder);
+    text.push(b'\n');
+    either_case(random, &mut text);
+    text
+}
+
+fn either_case(random: &mut Random, text: &mut [u8]) {
+    match random.below(3) {
+        0 => text.make_ascii_lowercase(),
+        1 => {
+            for character in text {
+                if random.below(2) == 0 {
+                    character.make_ascii_lowercase();
+                }
+            }
+        }
+        _ => {}
+    }
+}
+
+const ALPHABET: &[u8] = b"0019aFf\n\n\nG \r";
+
+/// One character changed, removed or put in, or the end cut off.
+pub fn nearly_good(random: &mut Random) -> Vec<u8> {
+    let mut text = good(random);
+    let place = random.below(text.len() as u64) as usize;
+    let character = random.pick(ALPHABET);
+    match random.below(4) {
+        0 => text[place] = character,
+        1 => drop(text.remove(place)),
+        2 => text.insert(place, character),
+        _ => text.truncate(place),
+    }
+    text
+}
+
+/// Of a few characters, or digits only, of which a line may have too many.
+pub fn garbage(random: &mut Random) -> Vec<u8> {
+    let (alphabet, length) = match random.below(3) {
+        0 => (ALPHABET, random.below(24)),
+        1 => (b"000000000000\n\n".as_slice(), random.below(24)),
+        _ => (b"09aF".as_slice(), random.within(62, 67)),
+    };
+    let mut text: Vec<u8> = (0..length).map(|_| random.pick(alphabet)).collect();
+    if random.below(2) == 0 {
+        text.push(random.pick(ALPHABET));
+    }
+    text
+}
+
+pub fn any(random: &mut Random) -> Vec<u8> {
+    match random.below(4) {
+        0 => good(random),
+        1 | 2 => nearly_good(random),
+        _ => garbage(random),
+    }
+}
