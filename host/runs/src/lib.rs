@@ -4,6 +4,5 @@ pub mod compare;
 pub mod fuzz;
 pub mod perform;
 pub mod run;
-mod scratch;
 pub mod stored;
 pub mod written;

@@ -1,7 +1,7 @@
 //! A run done by a program, in a folder of its own.
 
 use crate::run::{Done, Given};
-use crate::scratch::Scratch;
+use tool::scratch::Scratch;
 use tool::Tool;
 
 pub fn perform(tool: &Tool, given: &Given) -> Result<Done, String> {

@@ -1,10 +1,8 @@
 //! A run of the tool: what is given to it, and what has to come of it.
 
-use std::collections::BTreeMap;
 use std::ffi::OsString;
 
-/// Files of the working folder, by their names.
-pub type Files = BTreeMap<OsString, Vec<u8>>;
+pub use tool::scratch::Files;
 
 #[derive(Debug, Default, PartialEq, Eq)]
 pub struct Run {
@@ -17,6 +15,7 @@ pub struct Run {
 pub struct Given {
     pub words: Vec<OsString>,
     pub input: Vec<u8>,
+    /// Those of the working folder.
     pub files: Files,
 }
 

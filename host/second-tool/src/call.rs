@@ -1,17 +1,11 @@
 //! What the tool is called to do.
 
-use crate::line::{shown, Line};
-use crate::words::{number, wrong, Word, Words};
+use filter::line::Line;
+use filter::pair::{law, octet, pair};
+use filter::words::{number, wrong, Word, Words};
 use second::frame::is_sample_count;
 use second::g711::Law;
-use second::replies::{is_pair, NARROWEST_CORE, WIDEST};
-
-#[derive(Debug, PartialEq, Eq)]
-pub enum Call {
-    Help,
-    Version,
-    Job(Job),
-}
+use second::replies::{NARROWEST_CORE, WIDEST};
 
 #[derive(Debug, PartialEq, Eq)]
 pub struct Job {
@@ -47,19 +41,8 @@ pub enum Widths {
 
 const SAMPLES: usize = 160;
 
-/// The call, or what is wrong with the first wrong word.
-pub fn parse(words: &[Word]) -> Result<Call, Line> {
-    let mut words = Words::new(words);
-    if words.take("--help") {
-        return words.end().map(|()| Call::Help);
-    }
-    if words.take("--version") {
-        return words.end().map(|()| Call::Version);
-    }
-    job(&mut words).map(Call::Job)
-}
-
-fn job(words: &mut Words) -> Result<Job, Line> {
+/// The job, or what is wrong with the first wrong word.
+pub fn job(words: &mut Words) -> Result<Job, Line> {
     let (verbose, states) = options(words)?;
     let command = command(words, states.is_some())?;
     let input = words.place()?;
@@ -114,31 +97,6 @@ fn encode(words: &mut Words) -> Result<Plan, Line> {
     })
 }
 
-fn law(words: &mut Words) -> Result<Law, Line> {
-    let word = words.due("LAW")?;
-    match word.as_slice() {
-        b"mu" => Ok(Law::Mu),
-        b"a" => Ok(Law::A),
-        _ => Err(wrong("no law", word)),
-    }
-}
-
-fn pair(words: &mut Words) -> Result<(u8, u8), Line> {
-    let (width, x) = octet(words, "WIDTH")?;
-    let (core, y) = octet(words, "CORE")?;
-    if !is_pair(x, y) {
-        let what = b"no pair of WIDTH and CORE: '".as_slice();
-        return Err([what, shown(width), b" ", shown(core), b"'"].concat());
-    }
-    Ok((x, y))
-}
-
-/// A number and its word. One that is no octet is beyond every limit, and so is 255.
-fn octet<'a>(words: &mut Words<'a>, name: &str) -> Result<(&'a Word, u8), Line> {
-    let word = words.due(name)?;
-    Ok((word, number(word)?.try_into().unwrap_or(u8::MAX)))
-}
-
 fn samples(word: &Word) -> Result<usize, Line> {
     let count = number(word)?;
     if is_sample_count(count) {
@@ -188,10 +146,11 @@ fn apart(written: &Option<Word>, others: [&Option<Word>; 2]) -> Result<(), Line>
 #[cfg(test)]
 mod tests {
     use super::*;
+    use filter::program::{parse, Call};
 
-    fn read(words: &str) -> Result<Call, String> {
+    fn read(words: &str) -> Result<Call<Job>, String> {
         let words: Vec<Word> = words.split_whitespace().map(Word::from).collect();
-        parse(&words).map_err(|line| String::from_utf8_lossy(&line).into_owned())
+        parse(&words, job).map_err(|line| String::from_utf8_lossy(&line).into_owned())
     }
 
     fn plan(samples: usize) -> Plan {

@@ -1,7 +1,8 @@
 //! The stream frame by frame, each as long as its header says.
 
-use crate::files::Source;
-use crate::stop::{Place, Stop};
+use crate::stop::Place;
+use filter::files::Source;
+use filter::stop::Stop;
 use second::frame::{self, Header, HEADER_OCTETS};
 use second::replies;
 

@@ -1,9 +1,9 @@
 //! A list of widths in a file.
 
-use crate::files::Source;
-use crate::line::quoted;
-use crate::stop::Stop;
-use crate::words::Word;
+use filter::files::Source;
+use filter::line::quoted;
+use filter::stop::Stop;
+use filter::words::Word;
 
 const MOST: usize = 65_535;
 

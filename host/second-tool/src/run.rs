@@ -1,11 +1,13 @@
 //! A job from its files to its end: a piece is read, something is made of it, and that is written.
 
 use crate::call::Job;
-use crate::files::{Sink, Source};
-use crate::line::{put, say, Line};
-use crate::stop::{Place, Stop};
-use crate::words::Word;
+use crate::stop::Place;
 use crate::work::{Made, Work};
+use crate::PROGRAM;
+use filter::files::{Sink, Source};
+use filter::line::{put, say, Line};
+use filter::stop::Stop;
+use filter::words::Word;
 use second::state::State;
 
 const STATES: &str = "frame YU YL DMS DML AP A1 A2 B1 B2 B3 B4 B5 B6 \
@@ -35,12 +37,26 @@ struct Streams {
 fn open(job: &Job) -> Result<(Work, Streams), Stop> {
     let work = Work::new(&job.command)?;
     let streams = Streams {
-        input: Source::open(&job.input)?,
-        output: Sink::open(&job.output)?,
+        input: input(&job.input)?,
+        output: output(&job.output)?,
         states: job.states.as_ref().map(states).transpose()?,
         verbose: job.verbose,
     };
     Ok((work, streams))
+}
+
+fn input(word: &Option<Word>) -> Result<Source, Stop> {
+    match word {
+        Some(word) => Source::file("IN", word),
+        None => Ok(Source::standard()),
+    }
+}
+
+fn output(word: &Option<Word>) -> Result<Sink, Stop> {
+    match word {
+        Some(word) => Sink::file("OUT", word),
+        None => Ok(Sink::standard()),
+    }
 }
 
 fn states(word: &Word) -> Result<Sink, Stop> {
@@ -66,7 +82,7 @@ impl Streams {
 
     fn write(&mut self, made: Made, place: Place) -> Result<(), Stop> {
         if let Some(note) = &made.note {
-            say(&[b"note: ", note.as_slice()].concat());
+            say(PROGRAM.name, &[b"note: ", note.as_slice()].concat());
         }
         self.output.put(&made.octets)?;
         match &made.state {

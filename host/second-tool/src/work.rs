@@ -1,12 +1,13 @@
 //! What each command makes of a piece of the stream: of samples, or of a frame.
 
 use crate::call::{Command, Plan, Widths};
-use crate::files::Source;
 use crate::input::{frame, header};
-use crate::line::Line;
 use crate::list;
-use crate::stop::{Place, Stop};
+use crate::stop::Place;
 use crate::totals::Totals;
+use filter::files::Source;
+use filter::line::Line;
+use filter::stop::Stop;
 use second::calls::{self, reset};
 use second::frame::{GROUP, MOST_GROUPS};
 use second::g711::Law;

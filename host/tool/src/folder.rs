@@ -38,7 +38,7 @@ mod tests {
     fn files_are_found_by_their_ending_and_in_order() {
         let found = files(Path::new("src"), "rs").unwrap();
         let names: Vec<String> = found.iter().map(|place| name(place)).collect();
-        assert_eq!(names, ["folder", "lib"]);
+        assert_eq!(names, ["folder", "lib", "scratch"]);
     }
 
     #[test]

@@ -2,6 +2,7 @@
 //! said on standard error, and its status.
 
 pub mod folder;
+pub mod scratch;
 
 use std::borrow::Cow;
 use std::ffi::OsStr;

@@ -162,11 +162,11 @@ fn named(option: &str, name: &str) -> Vec<String> {
 }
 
 /// The file that a word means.
-fn file(word: &str) -> OsString {
+pub fn file(word: &str) -> OsString {
     word.strip_prefix("./").unwrap_or(word).into()
 }
 
-fn words(text: &str) -> Vec<String> {
+pub fn words(text: &str) -> Vec<String> {
     text.split(' ').map(str::to_string).collect()
 }
 
@@ -183,7 +183,7 @@ fn encode(random: &mut Random) -> Draft {
     Draft::new(call, vec![sound(random, law, count)])
 }
 
-fn word_of(law: Law) -> &'static str {
+pub fn word_of(law: Law) -> &'static str {
     match law {
         Law::Mu => "mu",
         Law::A => "a",

@@ -1,31 +1,13 @@
-//! Calls drawn one after the other from a start, so that a difference can be met again.
+//! Calls of the tool drawn one after the other from a start, so that a difference can be met again.
 
+use super::aim::Aim;
 use super::draft::Draft;
-use super::edit::edit;
+use super::edit::{edit, OF_TOOL};
 use crate::run::Given;
 use random::Random;
 
-/// What a call is drawn to end with. The program decides, but in this way no status is rare.
-#[derive(Clone, Copy, Debug, PartialEq, Eq)]
-pub enum Aim {
-    Done,
-    Fault,
-    WrongWords,
-}
-
-const AIMS: [Aim; 8] = [
-    Aim::Done,
-    Aim::Done,
-    Aim::Fault,
-    Aim::Fault,
-    Aim::Fault,
-    Aim::WrongWords,
-    Aim::WrongWords,
-    Aim::WrongWords,
-];
-
 pub fn draw(random: &mut Random) -> (Aim, Given) {
-    let aim = random.pick(&AIMS);
+    let aim = Aim::draw(random);
     let mut draft = Draft::draw(random);
     if aim == Aim::Fault {
         draft.spoil(random);
@@ -40,7 +22,7 @@ pub fn draw(random: &mut Random) -> (Aim, Given) {
     }
     let mut given = draft.given();
     if slips {
-        edit(&mut given.words, random);
+        edit(&mut given.words, &OF_TOOL, random);
     }
     (aim, given)
 }

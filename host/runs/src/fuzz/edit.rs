@@ -5,8 +5,9 @@ use random::Random;
 use std::ffi::OsString;
 use std::os::unix::ffi::OsStringExt;
 
-/// No name of a file without an end is among them, since any of them may become IN.
-const WRONG: [&str; 44] = [
+/// Wrong words for the tool. No name of a file without an end is among them, since any of them may
+/// become IN.
+pub const OF_TOOL: [&str; 44] = [
     "",
     "-",
     "--",
@@ -53,16 +54,51 @@ const WRONG: [&str; 44] = [
     ".",
 ];
 
-/// One slip or two.
-pub fn edit(words: &mut Vec<OsString>, random: &mut Random) {
+/// Wrong words for `sequences`; any of them may become HOMING.
+pub const OF_SEQUENCES: [&str; 31] = [
+    "",
+    "-",
+    "--",
+    "-h",
+    "--help",
+    "--version",
+    "0",
+    "1",
+    "2",
+    "3",
+    "4",
+    "5",
+    "6",
+    "02",
+    "+2",
+    "2.0",
+    "160",
+    "258",
+    "18446744073709551618",
+    "mu",
+    "a",
+    "A",
+    "read",
+    "write",
+    "encode",
+    "decode",
+    "h",
+    "./160",
+    "none/f",
+    ".",
+    "/dev/null",
+];
+
+/// One slip or two; where a word becomes a wrong one, it is one of these.
+pub fn edit(words: &mut Vec<OsString>, wrong: &[&str], random: &mut Random) {
     for _ in 0..1 + random.below(2) {
-        slip(words, random);
+        slip(words, wrong, random);
     }
 }
 
-fn slip(words: &mut Vec<OsString>, random: &mut Random) {
+fn slip(words: &mut Vec<OsString>, wrong: &[&str], random: &mut Random) {
     if words.is_empty() {
-        words.push(wrong(random));
+        words.push(wrong_word(wrong, random));
         return;
     }
     let [place, other] = [0; 2].map(|_| random.below(words.len() as u64) as usize);
@@ -73,16 +109,16 @@ fn slip(words: &mut Vec<OsString>, random: &mut Random) {
         1 => words.insert(place, words[place].clone()),
         2 => words.swap(place, other),
         3 => words[place] = words[other].clone(),
-        4 => words.push(wrong(random)),
-        _ => words[place] = wrong(random),
+        4 => words.push(wrong_word(wrong, random)),
+        _ => words[place] = wrong_word(wrong, random),
     }
 }
 
-fn wrong(random: &mut Random) -> OsString {
+fn wrong_word(wrong: &[&str], random: &mut Random) -> OsString {
     match random.below(20) {
         0 => OsString::from_vec(vec![b'f', 0xFF, 0xFE]),
         1 => "y".repeat(random.within(999, 1_002) as usize).into(),
         2 => "0".repeat(random.within(4_095, 4_098) as usize).into(),
-        _ => random.pick(&WRONG).into(),
+        _ => random.pick(wrong).into(),
     }
 }

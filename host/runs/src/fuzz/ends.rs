@@ -1,11 +1,9 @@
 //! Standard streams that are no ordinary pipes: input that does not wait for its octets, output that
-//! nobody reads, and standard error that is closed.
+//! nobody reads, and what the shell puts in place of a stream or closes.
 
-use super::fixed;
 use crate::compare::difference;
 use crate::perform::perform;
 use crate::run::{Done, Files, Given};
-use crate::scratch::Scratch;
 use std::io::{self, Write};
 use std::os::fd::{AsRawFd, OwnedFd};
 use std::os::unix::net::UnixStream;
@@ -15,6 +13,7 @@ use std::process::{Child, Stdio};
 use std::sync::mpsc::channel;
 use std::thread;
 use std::time::Duration;
+use tool::scratch::Scratch;
 use tool::Tool;
 
 extern "C" {
@@ -33,38 +32,65 @@ const PAUSE: Duration = Duration::from_millis(3);
 /// be busy.
 const LIMIT: Duration = Duration::from_secs(120);
 
-const NOT_WAITING: &str = "parchfennel: cannot read standard input, which does not wait: \
-                           No such device or address\n";
-
-/// What is wrong with how a program meets a slow pipe that does not wait, output that nobody reads, and
-/// closed standard error.
-pub fn of_any(tool: &Tool) -> Result<Vec<String>, String> {
-    let mut lines = Vec::new();
-    for given in fixed::slow() {
-        let (due, found) = slowly(tool, &given)?;
-        lines.extend(difference(&due, &found).map(|line| {
-            let call = given.call();
-            named(
-                tool,
-                &format!("{call}, with a pipe that does not wait: {line}"),
-            )
-        }));
-    }
-    if !unread(tool)? {
-        lines.push(named(tool, "it is not ended by SIGPIPE"));
-    }
-    let (due, found) = unheard(tool)?;
-    let line = difference(&due, &found);
-    lines.extend(line.map(|line| named(tool, &format!("standard error closed: {line}"))));
-    Ok(lines)
+/// Calls that are done with such streams.
+pub struct Odd {
+    /// What the program says is said under this name.
+    pub name: &'static str,
+    /// Their input comes slowly.
+    pub slow: Vec<Given>,
+    /// It writes more than a pipe holds, and nobody reads it.
+    pub unread: Given,
+    /// It reads standard input, which cannot be made to wait.
+    pub unwaiting: Given,
+    pub redirected: Vec<Redirected>,
 }
 
-/// What is wrong with how the tool meets input that cannot be made to wait.
-pub fn of_tool(tool: &Tool) -> Result<Vec<String>, String> {
-    let (due, found) = by_socket(tool)?;
-    let line = difference(&due, &found);
-    let told = line.map(|line| named(tool, &format!("a socket that does not wait: {line}")));
-    Ok(told.into_iter().collect())
+#[derive(Clone)]
+pub struct Redirected {
+    /// As the shell has it.
+    pub how: &'static str,
+    pub given: Given,
+    /// What is due, beside what the program does without it.
+    pub due: fn(Done) -> Done,
+}
+
+impl Odd {
+    /// What is wrong with how a program meets a slow pipe that does not wait, output that nobody reads,
+    /// and other streams by the shell.
+    pub fn of_any(&self, tool: &Tool) -> Result<Vec<String>, String> {
+        let mut lines = Vec::new();
+        for given in &self.slow {
+            let (due, found) = slowly(tool, given)?;
+            let how = format!("{}, with a pipe that does not wait", given.call());
+            lines.extend(told(tool, &how, &due, &found));
+        }
+        if !unread(tool, &self.unread)? {
+            lines.push(named(tool, "it is not ended by SIGPIPE"));
+        }
+        for redirected in &self.redirected {
+            let (due, found) = by_shell(tool, redirected)?;
+            let how = format!("{} {}", redirected.given.call(), redirected.how);
+            lines.extend(told(tool, &how, &due, &found));
+        }
+        Ok(lines)
+    }
+
+    /// What is wrong with how a program meets input that cannot be made to wait.
+    pub fn of_unwaiting(&self, tool: &Tool) -> Result<Vec<String>, String> {
+        let found = by_socket(tool, &self.unwaiting)?;
+        let what = "cannot read standard input, which does not wait: No such device or address";
+        let due = Done {
+            said: format!("{}: {what}\n", self.name).into(),
+            status: Some(1),
+            ..Done::default()
+        };
+        let line = told(tool, "a socket that does not wait", &due, &found);
+        Ok(line.into_iter().collect())
+    }
+}
+
+fn told(tool: &Tool, how: &str, due: &Done, found: &Done) -> Option<String> {
+    difference(due, found).map(|line| named(tool, &format!("{how}: {line}")))
 }
 
 fn named(tool: &Tool, line: &str) -> String {
@@ -104,16 +130,15 @@ fn stop_waiting(end: &impl AsRawFd) -> io::Result<()> {
     Ok(())
 }
 
-/// What is due, and what the program does, where standard input is a socket that does not wait: that
-/// cannot be opened again by a name. After a while it is closed, so that a program that waits all the
-/// same comes to its end.
-fn by_socket(tool: &Tool) -> Result<(Done, Done), String> {
+/// What the program does where standard input is a socket that does not wait: that cannot be opened
+/// again by a name. After a while it is closed, so that a program that waits all the same ends.
+fn by_socket(tool: &Tool, given: &Given) -> Result<Done, String> {
     let told = |error: io::Error| format!("a socket: {error}");
     let scratch = Scratch::with(&Files::new())?;
     let (ours, theirs) = UnixStream::pair().map_err(told)?;
     theirs.set_nonblocking(true).map_err(told)?;
     let input = Stdio::from(OwnedFd::from(theirs));
-    let child = tool.start(scratch.folder(), &["decode", "mu"], input)?;
+    let child = tool.start(scratch.folder(), &given.words, input)?;
     let (ended, end) = channel::<()>();
     thread::spawn(move || {
         // Either the program has ended, or the time is over.
@@ -122,12 +147,7 @@ fn by_socket(tool: &Tool) -> Result<(Done, Done), String> {
     });
     let found = done(child, &scratch)?;
     std::mem::drop(ended);
-    let due = Done {
-        said: NOT_WAITING.into(),
-        status: Some(1),
-        ..Done::default()
-    };
-    Ok((due, found))
+    Ok(found)
 }
 
 fn done(child: Child, scratch: &Scratch) -> Result<Done, String> {
@@ -140,38 +160,27 @@ fn done(child: Child, scratch: &Scratch) -> Result<Done, String> {
     })
 }
 
-/// What is due, and what the program does, where standard error is closed: the files that it writes have
-/// none of the lines that it would say.
-fn unheard(tool: &Tool) -> Result<(Done, Done), String> {
-    let given = fixed::verbose();
-    let due = perform(tool, &given)?;
-    let program = tool.command.first().ok_or("no command given")?;
+/// What is due, and what the program does, where the shell starts it with another stream.
+fn by_shell(tool: &Tool, redirected: &Redirected) -> Result<(Done, Done), String> {
+    let due = (redirected.due)(perform(tool, &redirected.given)?);
+    let (program, before) = tool.command.split_first().ok_or("no command given")?;
     let program = path::absolute(program).map_err(|e| e.to_string())?;
-    let shell = [
-        "sh",
-        "-c",
-        "exec \"$0\" \"$@\" 2>&-",
-        &program.to_string_lossy(),
-    ];
-    let closed = Tool {
-        command: shell.map(str::to_string).to_vec(),
+    let line = format!("exec \"$0\" \"$@\" {}", redirected.how);
+    let shell = ["sh", "-c", &line, &program.to_string_lossy()];
+    let other = Tool {
+        command: [shell.map(str::to_string).as_slice(), before].concat(),
     };
-    let due = Done {
-        said: Vec::new(),
-        ..due
-    };
-    Ok((due, perform(&closed, &given)?))
+    Ok((due, perform(&other, &redirected.given)?))
 }
 
 /// Whether the program is ended by SIGPIPE where nobody reads what it writes.
-fn unread(tool: &Tool) -> Result<bool, String> {
+fn unread(tool: &Tool, given: &Given) -> Result<bool, String> {
     let scratch = Scratch::with(&Files::new())?;
-    let words = ["encode", "mu", "5", "2"];
-    let mut child = tool.start(scratch.folder(), &words, Stdio::piped())?;
+    let mut child = tool.start(scratch.folder(), &given.words, Stdio::piped())?;
     std::mem::drop(child.stdout.take());
     if let Some(mut pipe) = child.stdin.take() {
         // The program may be gone before it has read everything.
-        let _ = pipe.write_all(&[0xFF; 100_000]);
+        let _ = pipe.write_all(&given.input);
     }
     let output = child.wait_with_output().map_err(|e| e.to_string())?;
     Ok(output.status.signal() == Some(SIGPIPE))
@@ -200,15 +209,37 @@ mod tests {
 
     #[test]
     fn a_filter_is_ended_by_the_signal_and_another_program_is_not() {
-        assert_eq!(unread(&shell("exec cat")), Ok(true));
-        assert_eq!(unread(&shell("cat >/dev/null")), Ok(false));
+        let given = Given {
+            input: vec![b'x'; 100_000],
+            ..Given::default()
+        };
+        assert_eq!(unread(&shell("exec cat"), &given), Ok(true));
+        assert_eq!(unread(&shell("cat >/dev/null"), &given), Ok(false));
     }
 
     #[test]
     fn a_socket_is_no_file_with_a_name() {
-        let (due, found) = by_socket(&shell("cat /dev/stdin")).unwrap();
-        assert_eq!(found.status, due.status);
+        let found = by_socket(&shell("cat /dev/stdin"), &Given::default()).unwrap();
+        assert_eq!(found.status, Some(1));
         let said = String::from_utf8_lossy(&found.said).into_owned();
         assert!(said.contains("No such device or address"), "{said}");
+    }
+
+    #[test]
+    fn the_shell_puts_another_stream_in_place() {
+        let redirected = Redirected {
+            how: ">/dev/full",
+            given: Given {
+                input: b"x".to_vec(),
+                ..Given::default()
+            },
+            due: |done| done,
+        };
+        let cat = Tool {
+            command: vec!["/bin/cat".to_string(), "-".to_string()],
+        };
+        let (due, found) = by_shell(&cat, &redirected).unwrap();
+        assert_eq!((due.output, due.status), (b"x".to_vec(), Some(0)));
+        assert_eq!((found.output, found.status), (vec![], Some(1)));
     }
 }

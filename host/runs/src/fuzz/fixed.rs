@@ -1,7 +1,9 @@
-//! Calls that are done each time, before the drawn ones: limits that a draw would seldom meet.
+//! Calls of the tool that are done each time, before the drawn ones: limits that a draw would seldom
+//! meet.
 
+use super::ends::{Odd, Redirected};
 use super::streams::{frames, sound};
-use crate::run::{Files, Given};
+use crate::run::{Done, Files, Given};
 use random::Random;
 use second::g711::Law;
 use std::ffi::OsString;
@@ -22,7 +24,7 @@ pub fn calls() -> Vec<Given> {
     calls
 }
 
-fn call(words: &[&str]) -> Given {
+pub fn call(words: &[&str]) -> Given {
     Given {
         words: words.iter().map(OsString::from).collect(),
         ..Given::default()
@@ -147,8 +149,19 @@ fn long_streams() -> Vec<Given> {
     calls
 }
 
-/// Calls whose input comes slowly: each command, so many pieces that every read has to wait.
-pub fn slow() -> Vec<Given> {
+/// Calls whose streams are no ordinary pipes.
+pub fn odd() -> Odd {
+    Odd {
+        name: "parchfennel",
+        slow: slow(),
+        unread: given(&["encode", "mu", "5", "2"], &[0xFF; 100_000]),
+        unwaiting: call(&["decode", "mu"]),
+        redirected: vec![unheard()],
+    }
+}
+
+/// Each command, with so many pieces that every read has to wait.
+fn slow() -> Vec<Given> {
     let mut random = Random::new(726);
     let speech = sound(&mut random, Law::A, 101);
     let stream = [0x6A, 2, 1, 2, 3, 4, 5, 6, 7, 8, 9, 10].repeat(9);
@@ -160,12 +173,20 @@ pub fn slow() -> Vec<Given> {
     ]
 }
 
-/// A call that says much and writes a file, with the number that is free first.
-pub fn verbose() -> Given {
-    given(&["-v", "encode", "mu", "5", "2", "8", "-", "out"], &[7; 20])
+/// A call that says much and writes a file, with the number that is free first: the file has none of the
+/// lines that it would say.
+fn unheard() -> Redirected {
+    Redirected {
+        how: "2>&-",
+        given: given(&["-v", "encode", "mu", "5", "2", "8", "-", "out"], &[7; 20]),
+        due: |done| Done {
+            said: Vec::new(),
+            ..done
+        },
+    }
 }
 
-fn given(words: &[&str], input: &[u8]) -> Given {
+pub fn given(words: &[&str], input: &[u8]) -> Given {
     Given {
         input: input.to_vec(),
         ..call(words)

@@ -1,8 +1,22 @@
-//! Calls of the tool that are drawn, to be done by two programs and compared.
+//! Calls that are drawn, to be done by two programs and compared: those of the tool here, those of
+//! `sequences` below.
 
+mod aim;
+pub mod contest;
 mod draft;
-pub mod draw;
+mod draw;
 mod edit;
-pub mod ends;
-pub mod fixed;
+mod ends;
+mod fixed;
+pub mod sequences;
 mod streams;
+
+use contest::Calls;
+
+pub fn of_tool() -> Calls {
+    Calls {
+        odd: fixed::odd(),
+        fixed: fixed::calls(),
+        draw: |random| draw::draw(random).1,
+    }
+}

@@ -1,13 +1,18 @@
 //! A folder that is there for one run.
 
-use crate::run::Files;
+use std::collections::BTreeMap;
+use std::ffi::OsString;
 use std::path::{Path, PathBuf};
 use std::sync::atomic::{AtomicUsize, Ordering};
 use std::{env, fs, process};
 
+/// Files by their names.
+pub type Files = BTreeMap<OsString, Vec<u8>>;
+
 pub struct Scratch(PathBuf);
 
 impl Scratch {
+    /// A file's name may have folders before it.
     pub fn with(files: &Files) -> Result<Scratch, String> {
         static MADE: AtomicUsize = AtomicUsize::new(0);
         let count = MADE.fetch_add(1, Ordering::Relaxed);
@@ -16,7 +21,10 @@ impl Scratch {
         let scratch = Scratch(place);
         for (name, octets) in files {
             let place = scratch.0.join(name);
-            fs::write(&place, octets).map_err(|error| format!("{}: {error}", place.display()))?;
+            let folder = place.parent().unwrap_or(&scratch.0);
+            fs::create_dir_all(folder)
+                .and_then(|()| fs::write(&place, octets))
+                .map_err(|error| format!("{}: {error}", place.display()))?;
         }
         Ok(scratch)
     }
@@ -25,6 +33,7 @@ impl Scratch {
         &self.0
     }
 
+    /// All that are in it, where there is no folder among them.
     pub fn files(&self) -> Result<Files, String> {
         let told = |error| format!("{}: {error}", self.0.display());
         fs::read_dir(&self.0)
@@ -58,5 +67,11 @@ mod tests {
         let place = scratch.folder().to_path_buf();
         drop(scratch);
         assert!(!place.exists());
+    }
+
+    #[test]
+    fn a_file_may_stand_in_a_folder() {
+        let scratch = Scratch::with(&Files::from([("a/b".into(), vec![7])])).unwrap();
+        assert_eq!(fs::read(scratch.folder().join("a/b")).ok(), Some(vec![7]));
     }
 }

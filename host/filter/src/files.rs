@@ -15,16 +15,15 @@ pub struct Source {
     again: Option<&'static str>,
 }
 
+/// Octets that are read at a time where all are wanted.
+const SOME: usize = 65_536;
+
 impl Source {
-    /// IN, where there is a word for it.
-    pub fn open(word: &Option<Word>) -> Result<Source, Stop> {
-        match word {
-            Some(word) => Source::file("IN", word),
-            None => Ok(Source {
-                called: "standard input",
-                from: Box::new(io::stdin().lock()),
-                again: Some("/dev/stdin"),
-            }),
+    pub fn standard() -> Source {
+        Source {
+            called: "standard input",
+            from: Box::new(io::stdin().lock()),
+            again: Some("/dev/stdin"),
         }
     }
 
@@ -43,14 +42,36 @@ impl Source {
         let mut piece = vec![0; octets];
         let mut filled = 0;
         while filled < octets {
-            match self.from.read(&mut piece[filled..]) {
-                Ok(0) => break,
-                Ok(more) => filled += more,
-                Err(error) => self.go_on(&error)?,
+            match self.more(&mut piece[filled..])? {
+                0 => break,
+                count => filled += count,
             }
         }
         piece.truncate(filled);
         Ok(piece)
+    }
+
+    /// All octets up to the end, or up to where reading failed and why it did.
+    pub fn rest(&mut self) -> (Vec<u8>, Option<Stop>) {
+        let mut octets = Vec::new();
+        let mut some = vec![0; SOME];
+        loop {
+            match self.more(&mut some) {
+                Ok(0) => return (octets, None),
+                Ok(count) => octets.extend(&some[..count]),
+                Err(stop) => return (octets, Some(stop)),
+            }
+        }
+    }
+
+    /// How many octets were read; none is the end.
+    fn more(&mut self, into: &mut [u8]) -> Result<usize, Stop> {
+        loop {
+            match self.from.read(into) {
+                Ok(count) => return Ok(count),
+                Err(error) => self.go_on(&error)?,
+            }
+        }
     }
 
     /// What can be done about an error, or the end.
@@ -79,12 +100,8 @@ pub struct Sink {
 }
 
 impl Sink {
-    /// OUT, where there is a word for it.
-    pub fn open(word: &Option<Word>) -> Result<Sink, Stop> {
-        match word {
-            Some(word) => Sink::file("OUT", word),
-            None => Ok(Sink::of("standard output", Box::new(io::stdout().lock()))),
-        }
+    pub fn standard() -> Sink {
+        Sink::of("standard output", Box::new(io::stdout().lock()))
     }
 
     /// The file is emptied, or made.
@@ -102,7 +119,7 @@ impl Sink {
         }
     }
 
-    /// At once, so that a failure is told at the frame that it is of.
+    /// At once, so that a failure is told at the piece that it is of.
     pub fn put(&mut self, octets: &[u8]) -> Result<(), Stop> {
         let written = self.to.write_all(octets).and_then(|()| self.to.flush());
         self.failed = written.is_err();
@@ -128,37 +145,50 @@ mod tests {
         }
     }
 
-    #[test]
-    fn a_piece_is_whole_or_is_not_used() {
-        let mut source = Source {
+    fn breaking() -> Source {
+        Source {
             called: "IN",
             from: Box::new(Breaking(vec![3, 2, 1])),
             again: None,
-        };
+        }
+    }
+
+    const BROKEN: &str = "cannot read IN: Input/output error";
+
+    #[test]
+    fn a_piece_is_whole_or_is_not_used() {
+        let mut source = breaking();
         assert_eq!(source.piece(2), Ok(vec![1, 2]));
-        let due = "cannot read IN: Input/output error";
-        assert_eq!(source.piece(2).map_err(line), Err(due.to_string()));
+        assert_eq!(source.piece(2).map_err(line), Err(BROKEN.to_string()));
+    }
+
+    #[test]
+    fn what_was_read_before_a_failure_is_there() {
+        let (octets, stop) = breaking().rest();
+        assert_eq!(octets, [1, 2, 3]);
+        assert_eq!(stop.map(line), Some(BROKEN.to_string()));
     }
 
     #[test]
     fn only_the_end_makes_a_piece_short() {
-        let mut source = Source::open(&Some("Cargo.toml".into())).unwrap();
+        let mut source = Source::file("IN", &"Cargo.toml".into()).unwrap();
         assert_eq!(source.piece(9), Ok(b"[package]".to_vec()));
-        assert!(source.piece(100_000).unwrap().len() < 100_000);
+        let (rest, stop) = source.rest();
+        assert!(rest.starts_with(b"\nname") && stop.is_none());
         assert_eq!(source.piece(1), Ok(vec![]));
     }
 
     #[test]
     fn what_cannot_be_opened_is_told() {
-        let word = Some("no/such".into());
+        let word = "no/such".into();
         let due = Some("cannot open 'no/such': No such file or directory".to_string());
-        assert_eq!(Source::open(&word).err().map(line), due);
-        assert_eq!(Sink::open(&word).err().map(line), due);
+        assert_eq!(Source::file("IN", &word).err().map(line), due);
+        assert_eq!(Sink::file("OUT", &word).err().map(line), due);
     }
 
     #[test]
     fn a_failure_is_told_at_once() {
-        let mut sink = Sink::open(&Some("/dev/full".into())).unwrap();
+        let mut sink = Sink::file("OUT", &"/dev/full".into()).unwrap();
         let due = "cannot write OUT: No space left on device";
         assert_eq!(sink.put(b"an octet").map_err(line), Err(due.to_string()));
         assert!(sink.failed);

@@ -4,7 +4,6 @@ use std::io::{self, Write};
 
 pub type Line = Vec<u8>;
 
-const NAME: &[u8] = b"parchfennel: ";
 const SHOWN: usize = 1_000;
 
 /// As much of a word as a line has of it.
@@ -16,9 +15,9 @@ pub fn quoted(word: &[u8]) -> Line {
     [b"'", shown(word), b"'"].concat()
 }
 
-/// The line under the tool's name, at once.
-pub fn say(line: &[u8]) {
-    put(&[NAME, line, b"\n"].concat());
+/// The line under the program's name, at once.
+pub fn say(name: &str, line: &[u8]) {
+    put(&[name.as_bytes(), b": ", line, b"\n"].concat());
 }
 
 /// Lines that have no name before them.

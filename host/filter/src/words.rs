@@ -9,7 +9,7 @@ pub type Word = Vec<u8>;
 /// Of a longer word this many octets count.
 pub const COUNTED: usize = 4_096;
 
-const STANDARD: &[u8] = b"-";
+const STANDARD: &str = "-";
 
 pub struct Words<'a> {
     rest: &'a [Word],
@@ -51,13 +51,17 @@ impl<'a> Words<'a> {
         file_name(self.due("FILE")?)
     }
 
+    /// A file that may be left out.
+    pub fn optional_file(&mut self) -> Result<Option<Word>, Line> {
+        self.next().map(file_name).transpose()
+    }
+
     /// IN or OUT; none is the standard one.
     pub fn place(&mut self) -> Result<Option<Word>, Line> {
-        match self.next() {
-            None => Ok(None),
-            Some(word) if word == STANDARD => Ok(None),
-            Some(word) => file_name(word).map(Some),
+        if self.take(STANDARD) {
+            return Ok(None);
         }
+        self.optional_file()
     }
 
     /// Insists that no word is left.
@@ -120,8 +124,9 @@ mod tests {
 
     #[test]
     fn the_standard_place_is_no_file() {
-        let words = ["-", "a", "7"].map(Word::from);
-        let mut words = Words::new(&words);
+        let given = ["-", "a", "7"].map(Word::from);
+        assert!(Words::new(&given).optional_file().is_err());
+        let mut words = Words::new(&given);
         assert_eq!(words.place(), Ok(None));
         assert_eq!(words.place(), Ok(Some("a".into())));
         assert!(words.place().is_err());
