@@ -4,6 +4,7 @@
 //! (docs/RULES.md, "Sources").
 
 pub mod checksum;
+pub mod codec;
 pub mod codewords;
 pub mod compare;
 pub mod files;
@@ -17,3 +18,4 @@ pub mod play;
 pub mod signals;
 pub mod signs;
 pub mod sine;
+pub mod stand_ins;

@@ -87,6 +87,14 @@ fn of_pairs(start: Start, input: Input, pairs: &[(u8, u8)]) -> Vec<Sequence> {
     found
 }
 
+/// The letter of a law where it is that of both ends.
+pub fn letter(law: Law) -> char {
+    match law {
+        Law::Mu => 'M',
+        Law::A => 'A',
+    }
+}
+
 pub const HOW_NAMES_ARE_MADE: &str =
     "R (from reset) or H (after homing), then N (normal), V (overload) or I (I-input), \
      then x and y of one of the nine pairs, then _, then M (mu), A (A), C (mu to A) or X (A to \
@@ -97,10 +105,9 @@ impl Sequence {
     pub fn name(&self) -> String {
         let (width, core) = (self.width, self.core);
         let laws = match (self.law_in, self.law_out) {
-            (Law::Mu, Law::Mu) => 'M',
-            (Law::A, Law::A) => 'A',
             (Law::Mu, Law::A) => 'C',
             (Law::A, Law::Mu) => 'X',
+            (law, _) => letter(law),
         };
         let start = match self.start {
             Start::Reset => 'R',

@@ -55,15 +55,28 @@ impl Ends {
     }
 }
 
+/// What goes in: samples for an encoder, or codewords for a decoder alone.
+pub enum Fed<'a> {
+    Octets(&'a [u8]),
+    Codewords(Vec<u8>),
+}
+
+pub fn fed<'a>(sequence: &Sequence, inputs: &'a Inputs) -> Fed<'a> {
+    let pcm = |kind| Fed::Octets(inputs.octets(kind, sequence.law_in));
+    match sequence.input {
+        Input::Normal => pcm(Kind::Normal),
+        Input::Overload => pcm(Kind::Overload),
+        Input::Jump => pcm(Kind::Jump),
+        Input::Codewords => Fed::Codewords(codewords::i_input(sequence.width)),
+        Input::Held => Fed::Codewords(codewords::held(sequence.width)),
+    }
+}
+
 pub fn play(sequence: &Sequence, inputs: &Inputs) -> Played {
     let mut ends = started(sequence, inputs);
-    let pcm = |kind| inputs.octets(kind, sequence.law_in);
-    match sequence.input {
-        Input::Normal => sent(&mut ends, pcm(Kind::Normal)),
-        Input::Overload => sent(&mut ends, pcm(Kind::Overload)),
-        Input::Jump => sent(&mut ends, pcm(Kind::Jump)),
-        Input::Codewords => received(&mut ends, codewords::i_input(sequence.width)),
-        Input::Held => received(&mut ends, codewords::held(sequence.width)),
+    match fed(sequence, inputs) {
+        Fed::Octets(octets) => sent(&mut ends, octets),
+        Fed::Codewords(codewords) => received(&mut ends, codewords),
     }
 }
 
