@@ -10,6 +10,10 @@ use crate::saying::say_reply;
 use crate::saying::say_state;
 use crate::saying::say_wrong;
 use crate::states::state_in;
+use crate::texts::answer_end_text;
+use crate::texts::answer_end_values;
+use crate::texts::answer_read;
+use crate::texts::answer_write;
 use check::same;
 use decode::decode;
 use drop_planes::drop_planes;
@@ -56,6 +60,27 @@ fn answer_call(number: u64, line: &[u8]) -> bool {
     }
     if same(word, b"level") {
         answer_level(number, line);
+        return true;
+    }
+    answer_text_call(number, line, word)
+}
+
+// The same of the calls on texts
+fn answer_text_call(number: u64, line: &[u8], word: &[u8]) -> bool {
+    if same(word, b"read") {
+        answer_read(number, line);
+        return true;
+    }
+    if same(word, b"end_text") {
+        answer_end_text(number, line);
+        return true;
+    }
+    if same(word, b"write") {
+        answer_write(number, line);
+        return true;
+    }
+    if same(word, b"end_values") {
+        answer_end_values(number, line);
         return true;
     }
     false

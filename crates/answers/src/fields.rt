@@ -107,7 +107,7 @@ fn octet_of(high: u8, low: u8) -> u8 {
 }
 
 // 16 where it is no digit
-fn digit_of(letter: u8) -> u8 {
+pub fn digit_of(letter: u8) -> u8 {
     match letter {
         b'0'..=b'9' => letter - b'0',
         b'a'..=b'f' => letter - b'a' + 10,

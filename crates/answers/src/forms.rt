@@ -3,9 +3,11 @@ use crate::fields::are_octets;
 use crate::fields::has_part;
 use crate::fields::number_in;
 use crate::fields::part;
+use crate::readers::is_reader;
 use crate::saying::say;
 use crate::saying::say_wrong_field;
 use crate::states::is_state;
+use crate::writers::is_writer;
 
 // Says the line where its fields fit, and the first field that does not where they do not. The call's word is field 1, and
 // the first letter is that of field 2.
@@ -31,10 +33,12 @@ fn field_at(k: usize) -> u64 {
     std::num::wrapping_add_u64(k as u64, 2)
 }
 
-// s: a state; n: an octet's value; l: a law; else octets
+// s: a state; r: a reader; w: a writer; n: an octet's value; l: a law; else octets
 fn is_of(form: u8, field: &[u8]) -> bool {
     match form {
         b's' => is_state(field),
+        b'r' => is_reader(field),
+        b'w' => is_writer(field),
         b'n' => number_in(field) <= 255,
         b'l' => number_in(field) <= 1,
         _ => are_octets(field),

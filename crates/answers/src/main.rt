@@ -3,8 +3,12 @@ mod answering;
 mod fields;
 mod forms;
 mod input;
+mod places;
+mod readers;
 mod saying;
 mod states;
+mod texts;
+mod writers;
 
 use answering::answer;
 use input::Held;
