@@ -1,3 +1,3 @@
-/* A program of the kit has no status; the library crates/tool answers one. */
-int parchfennel(void);
-int main(void) { return parchfennel(); }
+/* A program of the kit has no status; the libraries crates/tool and crates/sequence_tool answer one. RUN names the function of crates/entry. */
+int RUN(void);
+int main(void) { return RUN(); }

@@ -1,6 +1,7 @@
-// The words of encode and decode: LAW WIDTH CORE [SAMPLES], and LAW.
+// The words of encode and decode: LAW WIDTH CORE [SAMPLES], and LAW; of sequences both have LAW WIDTH CORE.
 use crate::kinds::law_at;
 use crate::kinds::number;
+use crate::program::Program;
 use crate::words::after;
 use crate::words::number_at;
 use crate::words::octet_of;
@@ -41,8 +42,8 @@ pub fn usual() -> Coding {
     }
 }
 
-pub fn read_decode(at: usize) -> Coding {
-    let law = law_at(at);
+pub fn read_law(program: Program, at: usize) -> Coding {
+    let law = law_at(program, at);
     Coding {
         good: law <= 1,
         at: after(at),
@@ -51,36 +52,44 @@ pub fn read_decode(at: usize) -> Coding {
     }
 }
 
-pub fn read_encode(at: usize) -> Coding {
-    let coding = read_decode(at);
+pub fn read_pair(program: Program, at: usize) -> Coding {
+    let coding = read_law(program, at);
     if !coding.good {
         return usual();
     }
     let first = coding.at;
-    let width = number(first, b"WIDTH");
+    let width = number(program, first, b"WIDTH");
     if !width.good {
         return usual();
     }
     let second = after(first);
-    let core = number(second, b"CORE");
+    let core = number(program, second, b"CORE");
     if !core.good {
         return usual();
     }
     let x = octet_of(width.value);
     let y = octet_of(core.value);
     if !is_pair(x, y) {
-        wrong_pair(first, second);
+        wrong_pair(program, first, second);
         return usual();
     }
-    with_samples(Coding {
+    Coding {
         at: after(second),
         width: x,
         core: y,
         ..coding
-    })
+    }
 }
 
-// SAMPLES, where a number is next
+// With SAMPLES, where a number is next
+pub fn read_encode(at: usize) -> Coding {
+    let coding = read_pair(Program::Parchfennel, at);
+    if !coding.good {
+        return coding;
+    }
+    with_samples(coding)
+}
+
 fn with_samples(coding: Coding) -> Coding {
     let at = coding.at;
     let count = number_at(at);
@@ -88,7 +97,7 @@ fn with_samples(coding: Coding) -> Coding {
         return coding;
     }
     if !is_count(EDITION, count.value) {
-        wrong(b"no count of samples: ", at);
+        wrong(Program::Parchfennel, b"no count of samples: ", at);
         return usual();
     }
     Coding {

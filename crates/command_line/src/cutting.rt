@@ -2,6 +2,7 @@
 use crate::coding::is_width;
 use crate::kinds::is_file;
 use crate::kinds::number;
+use crate::program::Program;
 use crate::words::after;
 use crate::words::is_word;
 use crate::words::octet_of;
@@ -39,19 +40,19 @@ fn read_widths(at: usize) -> Cut {
     if is_word(at, b"-list") {
         let list = after(at);
         return Cut {
-            good: is_file(list),
+            good: is_file(Program::Parchfennel, list),
             at: after(list),
             list,
             ..uncut()
         };
     }
-    let asked = number(at, b"WIDTH");
+    let asked = number(Program::Parchfennel, at, b"WIDTH");
     if !asked.good {
         return uncut();
     }
     let width = octet_of(asked.value);
     if !is_width(width) {
-        wrong(b"no width: ", at);
+        wrong(Program::Parchfennel, b"no width: ", at);
         return uncut();
     }
     Cut {

@@ -1,11 +1,12 @@
 // IN and OUT, the last words, and that no file is written that another word names.
+use crate::kinds::is_behind;
 use crate::kinds::is_file;
+use crate::program::Program;
 use crate::words::after;
 use crate::words::are_same;
 use crate::words::is_there;
 use crate::words::is_word;
-use crate::wrong::twice;
-use crate::wrong::unknown;
+use crate::wrong::wrong;
 
 pub struct Ends {
     pub good: bool,
@@ -24,25 +25,20 @@ pub fn read_ends(at: usize) -> Ends {
 }
 
 fn are_ends(first: usize, second: usize) -> bool {
-    let beyond = after(second);
     if !is_end(first) {
         return false;
     }
     if !is_end(second) {
         return false;
     }
-    if is_there(beyond) {
-        unknown(beyond);
-        return false;
-    }
-    true
+    is_behind(Program::Parchfennel, after(second))
 }
 
 fn is_end(at: usize) -> bool {
     if is_standard(at) {
         return true;
     }
-    is_file(at)
+    is_file(Program::Parchfennel, at)
 }
 
 fn named(at: usize) -> usize {
@@ -74,4 +70,8 @@ pub fn are_apart(ends: Ends, list: usize, states: usize) -> bool {
 
 fn is_one(i: usize, j: usize) -> bool {
     (i != 0) & (j != 0) & are_same(i, j)
+}
+
+fn twice(i: usize) {
+    wrong(Program::Parchfennel, b"two words for one file: ", i);
 }

@@ -1,20 +1,23 @@
-// A word that has to be of a kind: a file's name, a law, a number. Says where it is missing or none.
+// A word that has to be of a kind: a file's name, a law, a number, or no word at all. Says where it is missing or another.
+use crate::program::Program;
 use crate::words::Number;
 use crate::words::is_name;
 use crate::words::is_there;
 use crate::words::is_word;
 use crate::words::number_at;
 use crate::wrong::missing;
+use crate::wrong::unknown;
 use crate::wrong::wrong;
 
-pub fn is_file(at: usize) -> bool {
+pub fn is_file(program: Program, at: usize) -> bool {
     if !is_there(at) {
-        missing(b"FILE");
+        missing(program, b"FILE");
         return false;
     }
     let good = is_name(at);
     if !good {
         wrong(
+            program,
             b"not a file name (one called so is written with ./ before it): ",
             at,
         );
@@ -23,9 +26,9 @@ pub fn is_file(at: usize) -> bool {
 }
 
 // 0 for mu, 1 for a, and 2 for another word
-pub fn law_at(at: usize) -> u8 {
+pub fn law_at(program: Program, at: usize) -> u8 {
     if !is_there(at) {
-        missing(b"LAW");
+        missing(program, b"LAW");
         return 2;
     }
     if is_word(at, b"mu") {
@@ -34,18 +37,27 @@ pub fn law_at(at: usize) -> u8 {
     if is_word(at, b"a") {
         return 1;
     }
-    wrong(b"no law: ", at);
+    wrong(program, b"no law: ", at);
     2
 }
 
-pub fn number(at: usize, name: &[u8]) -> Number {
+pub fn number(program: Program, at: usize, name: &[u8]) -> Number {
     let found = number_at(at);
     if !is_there(at) {
-        missing(name);
+        missing(program, name);
         return found;
     }
     if !found.good {
-        wrong(b"not a number: ", at);
+        wrong(program, b"not a number: ", at);
     }
     found
+}
+
+// Whether the words end before it
+pub fn is_behind(program: Program, at: usize) -> bool {
+    if is_there(at) {
+        unknown(program, at);
+        return false;
+    }
+    true
 }

@@ -1,17 +1,21 @@
 // The tool's words (docs/TOOL.md), read from the left into a task. The first wrong word is said, and then there is no task.
-// Which widths, pairs and counts there are is asked of the crates that the calls ask.
+// Which widths, pairs and counts there are is asked of the crates that the calls ask. The words of the other program,
+// `sequences`, are read in sequences.rt, out of the same kinds of word.
 pub mod coding;
 pub mod cutting;
 mod ends;
 mod kinds;
 mod options;
 pub mod pages;
+pub mod program;
+pub mod sequences;
+pub mod status;
 pub mod words;
 pub mod wrong;
 
 use crate::coding::Coding;
-use crate::coding::read_decode;
 use crate::coding::read_encode;
+use crate::coding::read_law;
 use crate::coding::usual;
 use crate::cutting::Cut;
 use crate::cutting::read_cut;
@@ -20,6 +24,7 @@ use crate::ends::are_apart;
 use crate::ends::read_ends;
 use crate::options::Options;
 use crate::options::read_options;
+use crate::program::Program;
 use crate::words::after;
 use crate::words::is_there;
 use crate::words::is_word;
@@ -77,10 +82,14 @@ fn with_command(options: Options) -> Task {
         return coded(options, Command::Encode, read_encode(after(at)));
     }
     if is_word(at, b"decode") {
-        return coded(options, Command::Decode, read_decode(after(at)));
+        return coded(
+            options,
+            Command::Decode,
+            read_law(Program::Parchfennel, after(at)),
+        );
     }
     if !is_there(at) {
-        missing(b"COMMAND");
+        missing(Program::Parchfennel, b"COMMAND");
         return none();
     }
     stateless(options)
@@ -98,11 +107,11 @@ fn stateless(options: Options) -> Task {
     let at = options.at;
     let drops = is_word(at, b"drop");
     if !drops & !is_word(at, b"inspect") {
-        unknown(at);
+        unknown(Program::Parchfennel, at);
         return none();
     }
     if 0 < options.states {
-        wrong(b"no states to write: ", at);
+        wrong(Program::Parchfennel, b"no states to write: ", at);
         return none();
     }
     let quiet = Options {

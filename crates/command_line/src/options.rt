@@ -1,5 +1,6 @@
 // -v and -states FILE, before the command and in any order.
 use crate::kinds::is_file;
+use crate::program::Program;
 use crate::words::after;
 use crate::words::is_word;
 
@@ -37,7 +38,7 @@ fn take_option(o: Options) -> Options {
     if (o.states == 0) & is_word(at, b"-states") {
         let file = after(at);
         return Options {
-            good: is_file(file),
+            good: is_file(Program::Parchfennel, file),
             states: file,
             at: after(file),
             ..o

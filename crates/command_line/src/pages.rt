@@ -1,29 +1,64 @@
-// The help, the version and the usage. The version is that of the file VERSION, the kit's line that of KIT.
+// The help, the version and the usage of each program. The version is that of the file VERSION, the kit's line that of KIT.
+use crate::program::Program;
+use crate::program::named;
+use crate::program::say_unwritten;
+use crate::status::WRONG_WORDS;
+use crate::status::status_of;
+use crate::words::is_there;
+use crate::words::is_word;
+use crate::wrong::unknown;
 use libc::STDOUT_FILENO;
 use text::Line;
 
-// Writes the help, or the version; says where it could not be written
-pub fn write(help: bool) -> bool {
-    let written = written_page(help);
-    if !written {
-        os::fail(b"parchfennel: cannot write standard output");
-    }
-    written
+// Where the first word asks for a page, the status that the program ends with
+pub enum Paged {
+    Nothing,
+    Ended(i32),
 }
 
-fn written_page(help: bool) -> bool {
-    if help {
-        return write_help();
+// Writes the page that the first word asks for, which stands alone
+pub fn answer(program: Program) -> Paged {
+    if is_word(1, b"--help") {
+        return Paged::Ended(page(program, true));
     }
-    io::write_all(
-        STDOUT_FILENO,
-        b"parchfennel 0.2.0
+    if is_word(1, b"--version") {
+        return Paged::Ended(page(program, false));
+    }
+    Paged::Nothing
+}
+
+fn page(program: Program, help: bool) -> i32 {
+    if is_there(2) {
+        unknown(program, 2);
+        return WRONG_WORDS;
+    }
+    let written = written_page(program, help);
+    if !written {
+        say_unwritten(program);
+    }
+    status_of(written)
+}
+
+fn written_page(program: Program, help: bool) -> bool {
+    if help {
+        return write_help(program);
+    }
+    let line = named(program).text(
+        b" 0.3.0
 proved with rattle-kit-5b logic 064da1ca440f63e7
 ",
-    )
+    );
+    line.write(STDOUT_FILENO)
 }
 
-fn write_help() -> bool {
+fn write_help(program: Program) -> bool {
+    match program {
+        Program::Parchfennel => write_help_of_parchfennel(),
+        Program::Sequences => write_help_of_sequences(),
+    }
+}
+
+fn write_help_of_parchfennel() -> bool {
     io::write_all(
         STDOUT_FILENO,
         b"parchfennel: the embedded ADPCM of Recommendation G.727 in a pipe
@@ -72,8 +107,48 @@ Status:
     )
 }
 
-// The line of wrong words, and how the tool is called
-pub fn with_usage(line: Line) -> Line {
+fn write_help_of_sequences() -> bool {
+    io::write_all(
+        STDOUT_FILENO,
+        b"sequences: reads, writes and runs test sequences of Recommendation G.727
+
+A sequence is a text: two hexadecimal digits a value, up to 32 values a line, and
+on a last line of its own the sum of all values modulo 255.
+
+  sequences read                             text in, values out, an octet each
+  sequences write                            octets in, text out
+  sequences encode LAW WIDTH CORE [HOMING]   text of PCM values in, text of
+                                             codewords out, from reset
+  sequences decode LAW WIDTH CORE [HOMING]   text of codewords in, text of PCM
+                                             values out, from reset
+
+  LAW      mu or a
+  WIDTH    bits of a codeword, 2 to 5
+  CORE     bits of these that move the state, 2 to 4
+  HOMING   a file, a text of PCM values that go first and of which nothing is
+           written; decode takes them as encoded at this law and pair
+
+They read standard input and write standard output. A file whose name is digits
+only, or begins with -, is written with ./ before it: ./160
+
+Status:
+  0   done
+  1   a text was refused, a codeword was above its width, or reading or writing
+      failed; standard error says where; what was written before stays
+  2   wrong words; nothing was read or written
+",
+    )
+}
+
+// The line of wrong words, and how the program is called
+pub fn with_usage(program: Program, line: Line) -> Line {
+    match program {
+        Program::Parchfennel => with_usage_of_parchfennel(line),
+        Program::Sequences => with_usage_of_sequences(line),
+    }
+}
+
+fn with_usage_of_parchfennel(line: Line) -> Line {
     line.text(
         b"called as: parchfennel [-v] [-states FILE] encode LAW WIDTH CORE [SAMPLES] [IN [OUT]]
            parchfennel drop [-most] WIDTH [IN [OUT]]
@@ -82,6 +157,18 @@ pub fn with_usage(line: Line) -> Line {
            parchfennel inspect [IN [OUT]]
            parchfennel --help | --version
 LAW is mu or a; WIDTH is 2 to 5; CORE is 2 to 4, not above WIDTH; SAMPLES is a multiple of 8, 8 to 320
+",
+    )
+}
+
+fn with_usage_of_sequences(line: Line) -> Line {
+    line.text(
+        b"called as: sequences read
+           sequences write
+           sequences encode LAW WIDTH CORE [HOMING]
+           sequences decode LAW WIDTH CORE [HOMING]
+           sequences --help | --version
+LAW is mu or a; WIDTH is 2 to 5; CORE is 2 to 4, not above WIDTH; HOMING is a file, a text of PCM values
 ",
     )
 }

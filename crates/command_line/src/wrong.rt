@@ -2,6 +2,8 @@
 ghost use mathlib.Core.Path.{_≡_};
 ghost use lib.ListN.{length};
 use crate::pages::with_usage;
+use crate::program::Program;
+use crate::program::said_by;
 use crate::words::copy_word;
 use libc::STDERR_FILENO;
 use text::Line;
@@ -10,35 +12,32 @@ use text::Line;
 const SHOWN: usize = 1000;
 
 // What is wrong, and the word
-pub fn wrong(what: &[u8], i: usize) {
-    say_wrong(worded(wrong_words().text(what).octet(b'\''), i));
+pub fn wrong(program: Program, what: &[u8], i: usize) {
+    let line = wrong_words(program).text(what).octet(b'\'');
+    say_wrong(program, worded(line, i));
 }
 
-pub fn unknown(i: usize) {
-    wrong(b"unknown word: ", i);
+pub fn unknown(program: Program, i: usize) {
+    wrong(program, b"unknown word: ", i);
 }
 
-pub fn twice(i: usize) {
-    wrong(b"two words for one file: ", i);
+pub fn wrong_pair(program: Program, width: usize, core: usize) {
+    let line = wrong_words(program).text(b"no pair of WIDTH and CORE: '");
+    say_wrong(program, worded(worded(line, width).octet(b' '), core));
 }
 
-pub fn wrong_pair(width: usize, core: usize) {
-    let line = wrong_words().text(b"no pair of WIDTH and CORE: '");
-    say_wrong(worded(worded(line, width).octet(b' '), core));
+pub fn missing(program: Program, name: &[u8]) {
+    let line = wrong_words(program).text(b"a word is missing: ").text(name);
+    with_usage(program, line.octet(b'\n')).write(STDERR_FILENO);
 }
 
-pub fn missing(name: &[u8]) {
-    let line = wrong_words().text(b"a word is missing: ").text(name);
-    with_usage(line.octet(b'\n')).write(STDERR_FILENO);
-}
-
-fn wrong_words() -> Line {
-    Line::empty().text(b"parchfennel: wrong words: ")
+fn wrong_words(program: Program) -> Line {
+    said_by(program).text(b"wrong words: ")
 }
 
 // The line's last word is closed, and the usage follows.
-fn say_wrong(line: Line) {
-    with_usage(line.text(b"'\n")).write(STDERR_FILENO);
+fn say_wrong(program: Program, line: Line) {
+    with_usage(program, line.text(b"'\n")).write(STDERR_FILENO);
 }
 
 pub fn worded(line: Line, i: usize) -> Line {

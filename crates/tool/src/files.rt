@@ -1,11 +1,11 @@
 // The files of a task, opened: standard input and output where no word names another.
 use command_line::Task;
-use command_line::words::copy_word;
-use command_line::wrong::worded;
-use libc::STDERR_FILENO;
+use command_line::program;
+use command_line::program::Program;
 use libc::STDIN_FILENO;
 use libc::STDOUT_FILENO;
-use text::Line;
+use streams::files::hold_standard_streams;
+use streams::files::opened;
 
 const NONE: i32 = -1;
 
@@ -19,33 +19,21 @@ pub struct Files {
 
 // IN first: where it is not there, OUT is not touched.
 pub fn open(task: Task) -> Files {
-    // There are three standard streams.
-    hold_standard();
-    hold_standard();
-    hold_standard();
-    let input = opened(task.input, STDIN_FILENO, false);
+    hold_standard_streams();
+    let input = opened(Program::Parchfennel, task.input, STDIN_FILENO, false);
     if input < 0 {
         return none();
     }
-    let output = opened(task.output, STDOUT_FILENO, true);
+    let output = opened(Program::Parchfennel, task.output, STDOUT_FILENO, true);
     if output < 0 {
         return none();
     }
-    let states = opened(task.states, NONE, true);
+    let states = opened(Program::Parchfennel, task.states, NONE, true);
     Files {
         good: (task.states == 0) | (0 <= states),
         input,
         output,
         states,
-    }
-}
-
-// A file gets the least number that is free. Where a standard stream is closed, its number is taken here, so that no line that is
-// said lands in a file of the task.
-fn hold_standard() {
-    let fd = os::open_read(b"/dev/null");
-    if STDERR_FILENO < fd {
-        libc::close(fd);
     }
 }
 
@@ -56,35 +44,6 @@ fn none() -> Files {
         output: NONE,
         states: NONE,
     }
-}
-
-// The word's file, or the descriptor that is there where there is no word. Says where it cannot be opened.
-pub fn opened(word: usize, standard: i32, written: bool) -> i32 {
-    if word == 0 {
-        return standard;
-    }
-    // Before it is opened, since to copy a word sets errno
-    let line = worded(Line::empty().text(b"parchfennel: cannot open '"), word).octet(b'\'');
-    let fd = open_word(word, written);
-    if fd < 0 {
-        fail(line);
-    }
-    fd
-}
-
-fn open_word(word: usize, written: bool) -> i32 {
-    let mut name = io::buffer();
-    let n = copy_word(word, &mut name);
-    if written {
-        return os::open_overwrite(&name[..n]);
-    }
-    os::open_read(&name[..n])
-}
-
-fn fail(line: Line) {
-    let octets = line.octets;
-    let n = text::within(line.count, &octets);
-    os::fail(&octets[..n]);
 }
 
 // What a file system holds back it may refuse only now.
@@ -102,7 +61,7 @@ pub fn closed(files: Files) -> bool {
 
 pub fn say_unwritten(files: Files) {
     if files.output == STDOUT_FILENO {
-        os::fail(b"parchfennel: cannot write standard output");
+        program::say_unwritten(Program::Parchfennel);
         return;
     }
     os::fail(b"parchfennel: cannot write OUT");

@@ -1,14 +1,17 @@
 // drop -list FILE: a width for each frame, one digit each, with spaces, tabs and line ends between.
 ghost use Prim.Native.Nat.{_≤_};
 ghost use Rattle.io.specs.Counts.{Counts};
-use crate::files::opened;
-use crate::stream::Read;
-use crate::stream::Source;
-use crate::stream::read_part;
 use command_line::coding::is_width;
+use command_line::program::Program;
+use command_line::program::said_by;
 use command_line::words::digit_of;
 use command_line::wrong::worded;
 use libc::STDERR_FILENO;
+use streams::files::opened;
+use streams::reading::Name;
+use streams::reading::Read;
+use streams::reading::Source;
+use streams::reading::read_part;
 use text::Line;
 use text::within;
 
@@ -45,14 +48,18 @@ pub fn read_list(word: usize, widths: &mut [u8]) -> Read
 fn read_text(word: usize, text: &mut [u8]) -> Read
     ensures { λ r. ⌜ Counts (r .count) (now (text .exit)) ⌝ }
 {
-    let fd = opened(word, 0, false);
+    let fd = opened(Program::Parchfennel, word, 0, false);
     if fd < 0 {
         return Read {
             count: 0,
             good: false,
         };
     }
-    let source = Source { fd, list: true };
+    let source = Source {
+        program: Program::Parchfennel,
+        fd,
+        name: Name::List,
+    };
     let read = read_part(source, text, 0, text.len());
     libc::close(fd);
     read
@@ -122,5 +129,5 @@ fn is_good(word: usize, full: bool, list: Gathered) -> bool {
 }
 
 fn named(word: usize) -> Line {
-    worded(Line::empty().text(b"parchfennel: list '"), word)
+    worded(said_by(Program::Parchfennel).text(b"list '"), word)
 }

@@ -1,4 +1,6 @@
 // What is said on standard error of the data: why it was at fault, and notes.
+use command_line::program::Program;
+use command_line::program::said_by;
 use libc::STDERR_FILENO;
 use replies::Reply;
 use replies::number_of;
@@ -6,8 +8,7 @@ use text::Line;
 
 // What kind of line it is, the frame, and where it begins in the stream
 fn placed(kind: &[u8], frame: u64, octet: u64) -> Line {
-    Line::empty()
-        .text(b"parchfennel: ")
+    said_by(Program::Parchfennel)
         .text(kind)
         .text(b"frame ")
         .number(frame)

@@ -5,8 +5,9 @@ use crate::fuzz::fixed::{call, given};
 use crate::run::{Done, Files, Given};
 
 const NAME: &str = "sequences";
-const SOUND: &[u8] = b"7F\nFF80\nFF\n";
-const REFUSED: &[u8] = b"7F\nFF80\nxx\n";
+/// Values that are codewords of three bits too.
+const SOUND: &[u8] = b"07\n0602\n0F\n";
+const REFUSED: &[u8] = b"07\n0602\nxx\n";
 
 pub fn odd() -> Odd {
     Odd {
@@ -37,14 +38,11 @@ fn homed(command: &str, input: &[u8]) -> Given {
     }
 }
 
-/// The homing file must not be taken for a stream that is closed.
+/// The homing file must not be taken for a stream that is closed. Closed output is left out: a program in Rust writes to /dev/null
+/// then, and the proved one says that it cannot write.
 fn closed() -> Vec<Redirected> {
     let unheard = |done| Done {
         said: Vec::new(),
-        ..done
-    };
-    let unread = |done| Done {
-        output: Vec::new(),
         ..done
     };
     let mut found = Vec::new();
@@ -53,7 +51,6 @@ fn closed() -> Vec<Redirected> {
             ("<&-", &b""[..], (|done| done) as fn(Done) -> Done),
             ("2>&-", REFUSED, unheard),
             ("2>&-", SOUND, unheard),
-            (">&-", SOUND, unread),
         ] {
             let given = homed(command, input);
             found.push(Redirected { how, given, due });

@@ -1,11 +1,11 @@
--- `tool::stream::read_part` meets its contract. The loop's invariant: the buffer keeps its length. The measure is what is left to read.
+-- `streams::reading::read_part` meets its contract. The loop's invariant: the buffer keeps its length. The measure is what is left to read.
 use mathlib.Core.Path.{_≡_}
 use Prim.Native.Nat.{_-_, _≤_}
 use native.Mathlib.Omega.{arith}
 use lib.ListN.{length, length-append, length-take, length-drop}
 use Rattle.io.proofs.Counting.{counts}
-use Rattle.tool.proofs.stream.read_part.Statement.{statement}
-use Rattle.tool.proofs.stream.read_part.Tie as tie
+use Rattle.streams.proofs.reading.read_part.Statement.{statement}
+use Rattle.streams.proofs.reading.read_part.Tie as tie
 
 abbrev Inv-loop : tie.InvT-loop
 Inv-loop source buf₀ from to end done₀ buf done = (done ≤ end) × (length buf ≡ length buf₀)
