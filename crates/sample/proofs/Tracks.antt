@@ -18,6 +18,7 @@ use Rattle.engine.proofs.Keeps.{advance-in-range}
 use Rattle.sample.specs.Core.{Ic, stepOf}
 use Rattle.sample.specs.Encode.{D, I, encodeOf}
 use Rattle.sample.specs.Decode.{decodeOf}
+use Rattle.sample.specs.Pcm.{playOf}
 use Rattle.sample.proofs.Cores.{core-codeword, core-of-thinned}
 
 -- a step by a core codeword from a memory in range ends in range
@@ -63,6 +64,10 @@ module _ {core w : ℕ} (m : Memory) (p : Pair w core) where
   pub decode-in-range : MemoryInRange m → (J : ℕ) → J < 2 ^ w → MemoryInRange (decodeOf core w m J .memory)
   unfolding decodeOf
   decode-in-range i J h = step-in-range core m i (core-codeword p h)
+
+  pub play-in-range : MemoryInRange m → (LAW : ℕ) {J : ℕ} → Codeword w J → MemoryInRange (playOf LAW core w m J .memory)
+  unfolding playOf
+  play-in-range i LAW {J} code = decode-in-range i J (code .short)
 
   pub encode-in-range : MemoryInRange m → (SL : ℕ) → MemoryInRange (encodeOf core w m SL .memory)
   unfolding encodeOf I

@@ -1,12 +1,10 @@
 -- A run keeps its memories in range: from reset, and over each sample.
 use Prim.Native.Nat.{ℕ}
-use Rattle.quantizer.specs.Codeword.{Codeword}
 use Rattle.quantizer.specs.Pair.{Pair}
 use Rattle.state.specs.declared.memory.Memory.{Memory}
 use Rattle.state.specs.InRange.{MemoryInRange}
 use Rattle.sample.specs.Encode.{encodeOf}
-use Rattle.sample.specs.Pcm.{playOf}
-use Rattle.sample.proofs.Tracks.{encode-codeword, encode-in-range, decode-in-range}
+use Rattle.sample.proofs.Tracks.{encode-codeword, encode-in-range}
 use Rattle.vectors.specs.declared.drive.Track.{Track}
 use Rattle.vectors.specs.Ready.{Ready, Begun, Sent}
 
@@ -16,7 +14,3 @@ ready-of b k l = record { encoder = rw (b .encoder-is) k; decoder = rw (b .decod
 module _ {width core : ℕ} {m : Memory} (p : Pair width core) (k : MemoryInRange m) where
   pub encode-sent : (SL : ℕ) → Sent width (encodeOf core width m SL)
   encode-sent SL = record { memory = encode-in-range m p k SL; codeword = encode-codeword m p SL }
-
-  pub decode-kept : (LAW : ℕ) {J : ℕ} → Codeword width J → MemoryInRange (playOf LAW core width m J .memory)
-  unfolding playOf
-  decode-kept LAW {J} i = decode-in-range m p k J (i .short)

@@ -6,7 +6,8 @@ use native.Mathlib.Omega.{arith}
 use lib.ListN.{length, length-set}
 use Rattle.quantizer.proofs.Pairs.{pair-width}
 use Rattle.state.specs.InRange.{MemoryInRange}
-use Rattle.sequence_tool.proofs.Keeps.{codeword-below, decode-kept}
+use Rattle.sample.proofs.Tracks.{play-in-range}
+use Rattle.sequence_tool.proofs.Keeps.{codeword-below}
 use Rattle.sequence_tool.proofs.codec.decode_all.Statement.{statement}
 use Rattle.sequence_tool.proofs.codec.decode_all.Tie as tie
 
@@ -54,7 +55,7 @@ loop-again c =
     let at-loop = c .before .before .before .before .before in
     let pair = at-loop .before .before .before .before .pre .pair in
     let code = codeword-below pair (at-loop .before .before .count-codewords .ensures) (c .before .before .if1 .left) in
-    (simp (length-set) (omega arith), simp (length-set) (omega arith), rw (c .before .decode-byte .ensures) (decode-kept pair (at-loop .loop .inv .2) _ code))
+    (simp (length-set) (omega arith), simp (length-set) (omega arith), rw (c .before .decode-byte .ensures) (play-in-range _ pair (at-loop .loop .inv .2) _ code))
 
 decoded-requires-2 : tie.Need-decoded-requires-2 Inv-loop μ-loop
 decoded-requires-2 c κs = (c .before .before .before .before .before .pre, c .before .loop .inv .2)
