@@ -13,8 +13,8 @@ use Rattle.words.proofs.Pick.{cases}
 use Rattle.lists.specs.Run.{last}
 use Rattle.sequence.specs.Limits.{modulus}
 use Rattle.sequence.specs.Piece.{stop}
-use Rattle.sequence.specs.Reading.{isRefused, next, given, handedOut, beginning, reading, remainderVerdict, endOf}
-use Rattle.sequence.specs.Text.{Outcome, outcomeOf, Values, Wrong, readOf}
+use Rattle.sequence.specs.Reading.{isRefused, next, given, handedOut, beginning, reading, endOf}
+use Rattle.sequence.specs.Text.{outcomeOf, Values, readOf}
 use Rattle.sequence.specs.declared.reader.Verdict.{Verdict}
 use Rattle.sequence.specs.declared.reader.Verdict.the-variants.{Sound, Refused}
 use Rattle.sequence.specs.declared.reader.Reader.{Reader}

@@ -1,17 +1,16 @@
 -- Reading on from where a call stopped comes to the same as reading all at once: in the values that are handed out, and in the reader at the end.
-use mathlib.Core.Bool.{Bool, true, false, _||_}
+use mathlib.Core.Bool.{true, false}
 use mathlib.Core.List.{List, [], _∷_, _++_, append-assoc, append-nil}
 use mathlib.Core.Path.{_≡_, refl, sym, ap, _∙_}
 use Prim.Native.Nat.{ℕ, suc, _+_, _-_, _≤_}
 use native.Mathlib.Decide.{decLe}
 use native.Mathlib.Omega.{arith}
-use lib.Dec.{leb}
 use lib.ListN.{length, take, drop, take-append-drop, drop-of-length-le}
 use borrow.Author.Tests.{leb-true}
 use Rattle.words.proofs.Pick.{cases}
 use Rattle.lists.specs.Run.{last}
 use Rattle.sequence.specs.Piece.{Piece, stop, further, Offer, session}
-use Rattle.sequence.specs.Reading.{isRefused, next, given, handedOut, reading}
+use Rattle.sequence.specs.Reading.{isRefused, next, given, handedOut, isThrough, reading}
 use Rattle.sequence.specs.declared.reader.Reader.{Reader}
 use Rattle.sequence.proofs.Refusing.{refused-last, refused-hands, refusing-gives}
 use Rattle.sequence.proofs.Taking.{reading-refused, reading-full, reading-more}
@@ -59,10 +58,6 @@ onward room r (c ∷ xs) ys = onward-next r c (xs ++ ys) room xs (onward (room -
 
 pub reading-onward : (room n : ℕ) (r : Reader) (text : List ℕ) → Onward r text (reading room r (take n text))
 reading-onward room n r text = rw (take-append-drop n text) at (onward room r (take n text) (drop n text))
-
--- a caller's calls are done with a text where all of it is taken, or the reader is refused
-abbrev pub isThrough : Piece Reader → List ℕ → Bool
-isThrough p text = isRefused (p .state .verdict) || leb (length text) (p .taken)
 
 module _ (r : Reader) (text : List ℕ) (offers : List Offer) where
   all-made : handedOut r text ≡ session reading r text offers .made ++ handedOut (session reading r text offers .state) (drop (session reading r text offers .taken) text)

@@ -8,9 +8,9 @@ use lib.Dec.{eqb, leb}
 use Rattle.words.specs.Notation.{pick}
 use Rattle.words.proofs.Pick.{by-pick}
 use Rattle.lists.specs.Run.{last}
-use Rattle.sequence.specs.Limits.{lineFeed, longest}
+use Rattle.sequence.specs.Limits.{lineFeed, longest, isWhole}
 use Rattle.sequence.specs.Digits.{digitOf, isDigit}
-use Rattle.sequence.specs.Reading.{isRefused, isWhole, kept, firstDigit, secondDigit, withDigit, stepOf, next, givenOf, given, handedOut, endOf}
+use Rattle.sequence.specs.Reading.{isRefused, kept, firstDigit, secondDigit, withDigit, stepOf, next, givenOf, given, handedOut, endOf}
 use Rattle.sequence.specs.declared.reader.Reader.{Reader}
 use Rattle.sequence.specs.declared.step.Stepped.{Stepped}
 use Rattle.sequence.proofs.Rows.{step-refused}

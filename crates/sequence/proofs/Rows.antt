@@ -4,9 +4,9 @@ use mathlib.Core.Path.{_≡_}
 use Prim.Native.Nat.{ℕ, _<_, _≤_}
 use lib.Dec.{eqb}
 use borrow.Author.Tests.{le-leb, lt-leb, lt-ltb, le-ltb}
-use Rattle.sequence.specs.Limits.{lineFeed, longest}
+use Rattle.sequence.specs.Limits.{lineFeed, longest, isWhole}
 use Rattle.sequence.specs.Digits.{digitOf}
-use Rattle.sequence.specs.Reading.{isRefused, isWhole, refused, lineEnded, kept, withDigit, stepOf}
+use Rattle.sequence.specs.Reading.{isRefused, refused, lineEnded, kept, withDigit, stepOf}
 use Rattle.sequence.specs.declared.reader.Refusal.the-variants.{BadCharacter, LineTooLong}
 use Rattle.sequence.specs.declared.reader.Reader.{Reader}
 

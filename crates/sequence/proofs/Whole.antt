@@ -11,10 +11,10 @@ use borrow.Author.Tests.{eqb-true, eq-eqb, leb-true, le-leb, lt-leb, lt-ltb, le-
 use Rattle.words.proofs.Rows.{both}
 use Rattle.words.proofs.Pick.{cases}
 use Rattle.lists.specs.Run.{last}
-use Rattle.sequence.specs.Limits.{lineFeed}
+use Rattle.sequence.specs.Limits.{lineFeed, isWhole}
 use Rattle.sequence.specs.Digits.{digitOf}
 use Rattle.sequence.specs.Piece.{Offer, session}
-use Rattle.sequence.specs.Reading.{isRefused, isWhole, place, refused, lineEnded, kept, withDigit, stepOf, next, givenOf, handedOut, beginning, reading, endOf}
+use Rattle.sequence.specs.Reading.{isRefused, place, refused, lineEnded, kept, withDigit, stepOf, next, givenOf, handedOut, beginning, isThrough, reading, endOf}
 use Rattle.sequence.specs.Text.{Outcome, outcomeOf, Wrong, valuesOf, sumOf, remainder, linesOf, lines, characters, readOf}
 use Rattle.sequence.specs.declared.reader.Refusal.{Refusal}
 use Rattle.sequence.specs.declared.reader.Refusal.the-variants.{BadCharacter, LineTooLong}
@@ -25,7 +25,7 @@ use Rattle.sequence.proofs.Rows.{step-line, step-bad, step-long, step-d
 use Rattle.sequence.proofs.Refusing.{refused-last, refused-end}
 use Rattle.sequence.proofs.Lines.{prefix, prefix-line, lines-some, lines-on, none, pairs-even}
 use Rattle.sequence.proofs.Standing.{Position, Even, Stands, even, odd, alone, position, stands-end, stands-digit}
-use Rattle.sequence.proofs.Onward.{isThrough, through-made, through-ends}
+use Rattle.sequence.proofs.Onward.{through-made, through-ends}
 
 -- a line feed behind whole values
 module _ (r : Reader) (H : List ℕ) (p n : ℕ) (K : List ℕ → Outcome) (c : ℕ) (feeds : eqb c lineFeed ≡ true) (whole : isWhole n ≡ true) (bound : suc p < 2 ^ 64) where

@@ -1,5 +1,7 @@
 -- The numbers of a text's layout, each named once.
-use Prim.Native.Nat.{ℕ, _*_}
+use mathlib.Core.Bool.{Bool, _&&_}
+use Prim.Native.Nat.{ℕ, _*_, _%_}
+use lib.Dec.{eqb, leb}
 
 abbrev pub lineFeed : ℕ
 lineFeed = 10
@@ -14,3 +16,7 @@ longest = 2 * mostValues
 -- "the sum of all values modulo 255"
 abbrev pub modulus : ℕ
 modulus = 255
+
+-- so many characters of a line are whole values, and not none
+abbrev pub isWhole : ℕ → Bool
+isWhole n = eqb (n % 2) 0 && leb 2 n

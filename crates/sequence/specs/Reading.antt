@@ -1,13 +1,13 @@
 -- A reader, which is given a text character by character (docs/RULES.md, "The text of a sequence"): what a character makes of it and the value that it
 -- hands out, what a run of characters gives, a call on a piece of the text, and the text's end. Any reader may be handed in.
-use mathlib.Core.Bool.{Bool, true, false, _&&_, not}
+use mathlib.Core.Bool.{Bool, true, false, _&&_, _||_, not}
 use mathlib.Core.List.{List, [], _∷_, _++_}
 use Prim.Native.Nat.{ℕ, _+_, _*_, _-_, _/_, _%_, _^_}
 use lib.Dec.{eqb, leb, ltb}
 use lib.ListN.{length}
 use Rattle.words.specs.Notation.{_when_∣_}
 use Rattle.sequence.specs.Piece.{Piece, stop, further, Fills}
-use Rattle.sequence.specs.Limits.{lineFeed, longest, modulus}
+use Rattle.sequence.specs.Limits.{lineFeed, longest, modulus, isWhole}
 use Rattle.sequence.specs.Digits.{digitOf, isDigit}
 use Rattle.sequence.specs.declared.reader.Refusal.{Refusal}
 use Rattle.sequence.specs.declared.reader.Refusal.the-variants.{BadCharacter, LineTooLong, WrongRemainder, MissingRemainder}
@@ -24,10 +24,6 @@ isRefused (Refused why place) = true
 -- before the first character
 abbrev pub beginning : Reader
 beginning = record { verdict = Sound; line = 0; column = 0; high = 0; holds = false; held = 0; sum = 0 }
-
--- so many characters of a line are whole values, and not none
-abbrev pub isWhole : ℕ → Bool
-isWhole n = eqb (n % 2) 0 && leb 2 n
 
 -- where the next character stands
 abbrev pub place : Reader → ℕ
@@ -109,6 +105,10 @@ reading room r (c ∷ cs) =
     stop (next r c) when isRefused (next r c .verdict)
     ∣ stop r when ltb room (length (given r c))
     ∣ further 1 (given r c) (reading (room - length (given r c)) (next r c) cs)
+
+-- a caller's calls are through with a text where all of it is taken, or the reader is refused
+abbrev pub isThrough : Piece Reader → List ℕ → Bool
+isThrough p text = isRefused (p .state .verdict) || leb (length text) (p .taken)
 
 abbrev pub Reads : Reader → List ℕ → List ℕ → List ℕ → ReadAnswer → Type 0
 Reads r text before after a = Fills (reading (length before) r text) before after (a .reader) (a .taken) (a .written)

@@ -5,9 +5,8 @@ use Prim.Native.Nat.{ℕ, suc, _+_, _*_, _%_, _<_}
 use lib.Dec.{eqb, leb}
 use lib.ListN.{length, getD}
 use Rattle.words.specs.Notation.{_when_∣_}
-use Rattle.sequence.specs.Limits.{lineFeed, longest, modulus}
+use Rattle.sequence.specs.Limits.{lineFeed, longest, modulus, isWhole}
 use Rattle.sequence.specs.Digits.{digitOf, isDigit}
-use Rattle.sequence.specs.Reading.{isWhole}
 use Rattle.sequence.specs.declared.reader.Refusal.{Refusal}
 use Rattle.sequence.specs.declared.reader.Refusal.the-variants.{BadCharacter, LineTooLong, WrongRemainder, MissingRemainder}
 use Rattle.sequence.specs.declared.reader.Verdict.{Verdict}
@@ -50,7 +49,8 @@ unfoldable pub linesOf : List ℕ → List (List ℕ)
 linesOf [] = [] ∷ []
 linesOf (c ∷ cs) = [] ∷ linesOf cs when eqb c lineFeed ∣ onto c (linesOf cs)
 
--- lines of whole values from place p on, behind the values vs: the last one holds the remainder alone, and nothing stands behind it
+-- lines of whole values from place p on, behind the values vs: the last one holds the remainder alone, and nothing stands behind it. What stands behind the
+-- last line feed, and starts at p, is the end of the text or a line that lacks its own
 unfoldable pub lines : ℕ → List ℕ → List (List ℕ) → Outcome
 lines p vs [] = Wrong MissingRemainder p
 lines p vs (line ∷ []) = Wrong MissingRemainder p

@@ -1,7 +1,8 @@
 // One character: what it makes of the reader, and the value that it hands out.
 ghost use mathlib.Core.Path.{_≡_};
 ghost use Prim.Native.Nat.{_<_};
-ghost use Rattle.sequence.specs.Reading.{isWhole, place, refused, lineEnded, kept, handed, firstDigit, secondDigit, joined, withDigit, stepOf};
+ghost use Rattle.sequence.specs.Limits.{isWhole};
+ghost use Rattle.sequence.specs.Reading.{place, refused, lineEnded, kept, handed, firstDigit, secondDigit, joined, withDigit, stepOf};
 use crate::digits::NO_DIGIT;
 use crate::digits::digit_of;
 use crate::limits::LINE_FEED;
