@@ -19,3 +19,4 @@ pub mod Coming
 pub mod Layouts
 pub mod Progress
 pub mod Tight
+pub mod Spots
