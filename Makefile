@@ -1,5 +1,5 @@
-# make              proves and builds the tool, and prints its sum
-# make install      puts it into PREFIX/bin (PREFIX=/usr/local where it is not given)
+# make              proves and builds the tool, and the program sequences beside it, and prints their sums
+# make install      puts the tool into PREFIX/bin (PREFIX=/usr/local where it is not given)
 # make uninstall    takes it away again
 PREFIX ?= /usr/local
 bin = $(DESTDIR)$(PREFIX)/bin

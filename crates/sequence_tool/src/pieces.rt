@@ -112,7 +112,7 @@ fn next_turn(reader: Reader, done: Worked, good: bool) -> Turn
     }
 }
 
-// Where the i-th value of a piece stands: that of the last one, where there is room for no more
+// Where the i-th value of a piece stands, counted from 0: it is the last one for which i + 1 octets have room.
 fn place_at(from: Reader, piece: &[u8], i: usize) -> u64 {
     let mut values = io::buffer();
     let n = within(after(i), &values);
