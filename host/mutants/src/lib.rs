@@ -3,6 +3,7 @@
 //! equivalent, and then listed with its reason, or a case that the comparisons lack.
 
 pub mod catalog;
+pub mod choice;
 pub mod equivalents;
 pub mod left_out;
 pub mod mutant;
@@ -11,6 +12,7 @@ pub mod report;
 pub mod rewrites;
 pub mod scanner;
 pub mod source;
+pub mod told;
 pub mod verdict;
 pub mod witness;
 pub mod workshop;

@@ -1,9 +1,10 @@
-//! mutants [--list] [--jobs N] [FILE | NUMBER]: builds every mutant of the second codec, or those of
-//! one source, or one, shows each to the witnesses, and prints those that nothing saw. With --list it
-//! builds none and lists them. Ends with 0 only where every unseen mutant is listed as equivalent in
-//! equivalents.txt and every one listed there is still there and unseen.
+//! mutants [--list] [--jobs N] [FILE | FOLDER | NUMBER]: builds every mutant of the second codec, or
+//! those of one source or folder of sources, or one, shows each to the witnesses, and prints those that
+//! nothing saw. With --list it builds none and lists them. Ends with 0 only where every unseen mutant is
+//! listed as equivalent in equivalents.txt and every one listed there is still there and unseen.
 
-use mutants::catalog::{self, Choice};
+use mutants::catalog;
+use mutants::choice::Choice;
 use mutants::equivalents::{self, Equivalent};
 use mutants::mutant::Mutant;
 use mutants::progress::Progress;
@@ -14,7 +15,7 @@ use std::path::{Path, PathBuf};
 use std::process::ExitCode;
 use std::{env, fs, thread};
 
-const HOW: &str = "called as: mutants [--list] [--jobs N] [FILE | NUMBER]";
+const HOW: &str = "called as: mutants [--list] [--jobs N] [FILE | FOLDER | NUMBER]";
 
 struct Call {
     only_list: bool,
@@ -62,7 +63,7 @@ fn perform(call: &Call) -> Result<bool, String> {
     let all = catalog::all(&repository.join("host/second/src"))?;
     let chosen = call.choice.among(all);
     if chosen.is_empty() {
-        return Err("no such source or number".to_string());
+        return Err("no such source, folder or number".to_string());
     }
     if call.only_list {
         list(&chosen);
@@ -127,7 +128,7 @@ mod tests {
     #[test]
     fn words_are_read() {
         let call = read("--jobs 3 predictor --list").unwrap();
-        assert_eq!(call.choice, Choice::File("predictor.rs".to_string()));
+        assert_eq!(call.choice, Choice::of("predictor"));
         assert!(call.only_list && call.jobs == 3);
         let plain = read("").unwrap();
         assert!(!plain.only_list && plain.jobs > 0 && plain.choice == Choice::All);

@@ -9,7 +9,7 @@ pub struct Witness {
     pub run: &'static [&'static str],
 }
 
-pub const WITNESSES: [Witness; 3] = [
+pub const WITNESSES: [Witness; 4] = [
     Witness {
         name: "answers",
         build: &["-p", "answers"],
@@ -27,6 +27,15 @@ pub const WITNESSES: [Witness; 3] = [
             "target/release/runs",
             "runs/stored",
             "target/release/second-tool",
+        ],
+    },
+    Witness {
+        name: "sequences",
+        build: &["-p", "runs", "-p", "second-sequences"],
+        run: &[
+            "target/release/runs",
+            "runs/stored-sequences",
+            "target/release/second-sequences",
         ],
     },
 ];

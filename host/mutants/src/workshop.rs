@@ -2,6 +2,7 @@
 //! The sources themselves are never touched.
 
 use crate::mutant::Mutant;
+use crate::told::told;
 use crate::verdict::Verdict;
 use crate::witness::{Witness, WITNESSES};
 use std::os::unix::fs::symlink;
@@ -34,7 +35,7 @@ pub struct Workshop {
 
 impl Workshop {
     /// Copies `host/` into the folder. Its programs look for the proved programs' lines beside it, and
-    /// the second tool for the lines of its version.
+    /// the doubles of the tool and of `sequences` for the lines of their version.
     pub fn open(repository: &Path, folder: &Path) -> Result<Workshop, String> {
         let host = folder.join("host");
         copy(&repository.join("host"), &host)?;
@@ -131,8 +132,4 @@ fn copy(from: &Path, to: &Path) -> Result<(), String> {
         }
     }
     Ok(())
-}
-
-fn told(place: &Path) -> impl Fn(std::io::Error) -> String + '_ {
-    move |error| format!("{}: {error}", place.display())
 }
