@@ -1,8 +1,8 @@
 // The text of a test sequence, read and written in pieces (docs/RULES.md, "The text of a sequence"). It knows nothing of
 // codecs.
-pub mod digits;
-pub mod limits;
+mod digits;
+mod limits;
+mod modular;
 pub mod reader;
 mod step;
-mod sum;
 pub mod writer;

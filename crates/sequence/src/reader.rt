@@ -6,8 +6,8 @@ ghost use lib.Dec.{leb};
 ghost use lib.ListN.{length};
 ghost use Rattle.sequence.specs.Reading.{isRefused, beginning, Reads, back, remainderVerdict, endOf, lastPlace};
 ghost use Rattle.sequence.specs.Inner.{Puts};
+use crate::modular::remainder_of;
 use crate::step::step;
-use crate::sum::remainder_of;
 
 pub enum Refusal {
     BadCharacter,

@@ -7,11 +7,11 @@ use crate::digits::NO_DIGIT;
 use crate::digits::digit_of;
 use crate::limits::LINE_FEED;
 use crate::limits::LONGEST;
+use crate::modular::added;
 use crate::reader::Reader;
 use crate::reader::Refusal;
 use crate::reader::Verdict;
 use crate::reader::is_refused;
-use crate::sum::added;
 
 pub struct Stepped {
     pub reader: Reader,

@@ -5,8 +5,8 @@ ghost use Rattle.sequence.specs.Writing.{blank, closed, closing, behindL
 use crate::digits::capital;
 use crate::limits::LINE_FEED;
 use crate::limits::LONGEST;
-use crate::sum::added;
-use crate::sum::remainder_of;
+use crate::modular::added;
+use crate::modular::remainder_of;
 
 // What is written: values; the rest of their last line; the remainder's line; nothing more
 pub enum Stage {

@@ -1,4 +1,4 @@
-// The sum of values, of which the remainder is kept.
+// The sum of values modulo 255, of which the remainder is made.
 ghost use mathlib.Core.Path.{_≡_};
 ghost use Prim.Native.Nat.{_%_};
 ghost use Rattle.sequence.specs.Limits.{modulus};
