@@ -1,6 +1,6 @@
 -- What is handed out is never taken back: it is the front of the values of every sound text that begins so. A refused reader answers every call alike. And FF is
 -- no remainder.
-use mathlib.Core.Bool.{Bool, true, false, _&&_}
+use mathlib.Core.Bool.{true, _&&_}
 use mathlib.Core.List.{List, [], _∷_, _++_, append-assoc}
 use mathlib.Core.Path.{_≡_, refl, sym, ap, _∙_}
 use Prim.Native.Nat.{ℕ, _%_, _^_, _<_}
@@ -8,7 +8,6 @@ use native.Mathlib.Omega.{arith}
 use lib.Dec.{eqb}
 use lib.ListN.{length}
 use borrow.Author.Tests.{eqb-true}
-use Rattle.words.specs.Notation.{pick}
 use Rattle.words.proofs.Pick.{cases}
 use Rattle.lists.specs.Run.{last}
 use Rattle.sequence.specs.Limits.{modulus}
@@ -18,6 +17,7 @@ use Rattle.sequence.specs.Text.{outcomeOf, Values, readOf}
 use Rattle.sequence.specs.declared.reader.Verdict.{Verdict}
 use Rattle.sequence.specs.declared.reader.Verdict.the-variants.{Sound, Refused}
 use Rattle.sequence.specs.declared.reader.Reader.{Reader}
+use Rattle.sequence.proofs.Contrary.{contrary}
 use Rattle.sequence.proofs.Refusing.{refused-next}
 use Rattle.sequence.proofs.Taking.{reading-refused}
 use Rattle.sequence.proofs.Whole.{read-whole}
@@ -48,16 +48,10 @@ pub remainder-below : (r : Reader) → endOf r ≡ Sound → r .held < 255
 unfolding endOf
 remainder-below r e =
     cases (isRefused (r .verdict))
-    (λ t. absurd (differ (rw t at e) t))
+    (λ t. absurd (contrary t (ap isRefused (rw t at e))))
     (λ t.
     cases (eqb (r .column) 0 && r .holds)
     (λ u.
     cases (eqb (r .held) (r .sum % modulus)) (λ w. let same = eqb-true (r .held) (r .sum % modulus) w in omega arith)
     (λ w. let z : _≡_ {A = ℕ} 0 1 = cc (rw (t, u, w) at e) in absurd (omega arith)))
     (λ u. let z : _≡_ {A = ℕ} 0 1 = cc (rw (t, u) at e) in absurd (omega arith)))
-  where
-    differ : {v : Verdict} → v ≡ Sound → isRefused v ≡ true → ⊥
-    differ {v} s t =
-        let z : _≡_ {A = Bool} true false = sym t ∙ ap isRefused s in
-        let one : _≡_ {A = ℕ} 0 1 = ap (λ (b : Bool). pick b 0 1) z in
-        omega arith

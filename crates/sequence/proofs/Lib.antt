@@ -1,3 +1,4 @@
+pub mod Contrary
 pub mod Characters
 pub mod Rows
 pub mod Underway

@@ -1,11 +1,9 @@
 -- A refused reader stays as it is, whatever follows, and hands nothing out; and the character that refuses it hands nothing out either.
-use mathlib.Core.Bool.{Bool, true, false, _&&_, not}
+use mathlib.Core.Bool.{true, false, _&&_, not}
 use mathlib.Core.List.{List, [], _∷_}
 use mathlib.Core.Path.{_≡_, refl, ap}
 use Prim.Native.Nat.{ℕ, _%_}
-use native.Mathlib.Omega.{arith}
 use lib.Dec.{eqb, leb}
-use Rattle.words.specs.Notation.{pick}
 use Rattle.words.proofs.Pick.{by-pick}
 use Rattle.lists.specs.Run.{last}
 use Rattle.sequence.specs.Limits.{lineFeed, longest, isWhole}
@@ -13,6 +11,7 @@ use Rattle.sequence.specs.Digits.{digitOf, isDigit}
 use Rattle.sequence.specs.Reading.{isRefused, kept, firstDigit, secondDigit, withDigit, stepOf, next, givenOf, given, handedOut, endOf}
 use Rattle.sequence.specs.declared.reader.Reader.{Reader}
 use Rattle.sequence.specs.declared.step.Stepped.{Stepped}
+use Rattle.sequence.proofs.Contrary.{contrary}
 use Rattle.sequence.proofs.Rows.{step-refused}
 
 module _ (r : Reader) (is : isRefused (r .verdict) ≡ true) where
@@ -45,15 +44,12 @@ unfolding Quiet
 quiet-kept r e = refl
 
 module _ (r : Reader) (sound : isRefused (r .verdict) ≡ false) where
-  never : {A : Type 0} → isRefused (r .verdict) ≡ true → A
-  never e = absurd (let z : _≡_ {A = Bool} true false = cc in let o : _≡_ {A = ℕ} 0 1 = ap (λ (t : Bool). pick t 0 1) z in omega arith)
-
   quiet-digit : (d : ℕ) → Quiet (withDigit r d)
   unfolding Quiet withDigit firstDigit secondDigit
   quiet-digit d =
       by-pick Quiet (eqb (r .column % 2) 0) _ _
-      (λ t. by-pick Quiet (r .holds) _ _ (λ u e. never e) (λ u e. refl))
-      (λ t. by-pick Quiet (eqb (r .column) 1) _ _ (λ u e. refl) (λ u e. never e))
+      (λ t. by-pick Quiet (r .holds) _ _ (λ u e. absurd (contrary e sound)) (λ u e. refl))
+      (λ t. by-pick Quiet (eqb (r .column) 1) _ _ (λ u e. refl) (λ u e. absurd (contrary e sound)))
 
 pub refusing-gives : (r : Reader) (c : ℕ) → isRefused (next r c .verdict) ≡ true → given r c ≡ []
 unfolding Quiet stepOf

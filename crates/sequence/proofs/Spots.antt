@@ -1,7 +1,7 @@
 -- Where the value stands that was handed out last: at `lastPlace`, two characters of the text, which are its digits.
 use mathlib.Core.Bool.{Bool, true, false, _&&_}
 use mathlib.Core.List.{List, [], _∷_, _++_, append-assoc, append-nil}
-use mathlib.Core.Path.{_≡_, refl, sym, ap, subst, _∙_}
+use mathlib.Core.Path.{_≡_, refl, sym, subst, _∙_}
 use Prim.Native.Nat.{ℕ, suc, _+_, _*_, _-_, _/_, _%_, _^_, _≤_, _<_}
 use native.Mathlib.Decide.{decLe}
 use native.Mathlib.Omega.{arith}
@@ -9,7 +9,6 @@ use lib.Dec.{eqb, leb}
 use lib.ListN.{length, getD, length-append, List·getD-append}
 use lib.Seq.{getD-at}
 use borrow.Author.Tests.{eqb-true, eq-eqb, ne-eqb, leb-true, le-leb, lt-leb}
-use Rattle.words.specs.Notation.{pick}
 use Rattle.words.proofs.Rows.{both}
 use Rattle.words.proofs.Pick.{cases}
 use Rattle.lists.specs.Run.{last}
@@ -20,6 +19,7 @@ use Rattle.sequence.specs.declared.reader.Refusal.the-variants.{BadChara
 use Rattle.sequence.specs.declared.reader.Verdict.the-variants.{Sound}
 use Rattle.sequence.specs.declared.reader.Reader.{Reader}
 use Rattle.sequence.specs.declared.step.Stepped.{Stepped}
+use Rattle.sequence.proofs.Contrary.{contrary}
 use Rattle.sequence.proofs.Rows.{step-line, step-bad, step-long, step-digit}
 use Rattle.sequence.proofs.Refusing.{refused-last}
 
@@ -232,9 +232,7 @@ module _ (t : List ℕ) (r : Reader) (H : List ℕ) (c : ℕ) (cs : List ℕ) (f
 
   further-refused : (s : Reader) → isRefused (s .verdict) ≡ true → Further (kept s)
   unfolding Further
-  further-refused s e u =
-      let z : _≡_ {A = Bool} true false = sym e ∙ (rw (refused-last s e cs) at u) in
-      absurd (let n : _≡_ {A = ℕ} 0 1 = ap (λ (b : Bool). pick b 0 1) z in omega arith)
+  further-refused s e u = absurd (contrary e (rw (refused-last s e cs) at u))
 
   -- the rest, from the form that a step leaves
   further-on : (s : Stepped) → (isRefused (last next (s .reader) cs .verdict) ≡ false → Form ((t ++ c ∷ []) ++ cs) (last next (s .reader) cs) ((H ++ givenOf s) ++ handedOut (s .reader) cs)) → Further s
@@ -269,15 +267,20 @@ begins : Form [] beginning []
 begins = start (record { sound = refl; size = refl; column = refl; holds-is = refl }) (record { at = λ some. absurd (omega arith) })
 
 module _ (t : List ℕ) (r : Reader) (H : List ℕ) (bound : length t < 2 ^ 64) (some : 0 < length H) where
-  spot : Form t r H → valueAt t (lastPlace r) ≡ lastOf H
+  -- in the first columns it stands before the line
+  before : (n : ℕ) (b : Bool) → Read t r n b → n ≤ 2 → eqb (r .column) 0 && r .holds ≡ false → Lastly t H (r .line) 3 → valueAt t (lastPlace r) ≡ lastOf H
   unfolding lastPlace
-  spot (start a l) =
+  before n b a few none l =
       let size = a .size in
       let column = a .column in
       let at = l .at some in
       let low = at .0 in
       let is : back 3 (r .line) ≡ r .line - 3 = omega arith in
-      rw (lt-leb 3 (r .column) (omega arith), eq-eqb (r .column) 0 column, a .holds-is, is) (at .2)
+      rw (lt-leb 3 (r .column) (omega arith), none, is) (at .2)
+
+  spot : Form t r H → valueAt t (lastPlace r) ≡ lastOf H
+  unfolding lastPlace
+  spot (start a l) = before 0 false a (omega arith) (rw (a .column, a .holds-is)) l
   spot (alone a q e h l) =
       let size = a .size in
       let column = a .column in
@@ -285,20 +288,8 @@ module _ (t : List ℕ) (r : Reader) (H : List ℕ) (bound : length t < 2 ^ 64) 
       let low = at .0 in
       let is : back 6 (r .line) ≡ r .line - 6 = omega arith in
       rw (lt-leb 3 (r .column) (omega arith), eq-eqb (r .column) 0 column, a .holds-is, is) (at .2)
-  spot (first a h small l) =
-      let size = a .size in
-      let column = a .column in
-      let at = l .at some in
-      let low = at .0 in
-      let is : back 3 (r .line) ≡ r .line - 3 = omega arith in
-      rw (lt-leb 3 (r .column) (omega arith), ne-eqb (r .column) 0 (λ z. omega arith), is) (at .2)
-  spot (one a h l) =
-      let size = a .size in
-      let column = a .column in
-      let at = l .at some in
-      let low = at .0 in
-      let is : back 3 (r .line) ≡ r .line - 3 = omega arith in
-      rw (lt-leb 3 (r .column) (omega arith), ne-eqb (r .column) 0 (λ z. omega arith), is) (at .2)
+  spot (first a h small l) = before 1 false a (omega arith) (rw (a .column)) l
+  spot (one a h l) = before 2 true a (omega arith) (rw (a .column)) l
   spot (odd n a three half q e h small l) =
       let size = a .size in
       let column = a .column in

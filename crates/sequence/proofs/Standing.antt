@@ -18,6 +18,7 @@ use Rattle.sequence.specs.declared.reader.Refusal.the-variants.{WrongRem
 use Rattle.sequence.specs.declared.reader.Verdict.the-variants.{Sound, Refused}
 use Rattle.sequence.specs.declared.reader.Reader.{Reader}
 use Rattle.sequence.specs.declared.step.Stepped.{Stepped}
+use Rattle.sequence.proofs.Contrary.{contrary}
 use Rattle.sequence.proofs.Lines.{prefix, prefix-line, prefix-snoc, lines-some, onto-no-end, length-onto, lines-on, Pairs, none, pairs-even, pairs-snoc, values-snoc, remainder-snoc}
 
 -- the reader is sound, p characters are behind it, n of them in its line, and it has handed out the values H
@@ -115,12 +116,6 @@ module _ (r : Reader) (H : List ℕ) (p n : ℕ) (K : List ℕ → Outcome) (bou
   stands-end (even vs front e) = end-even vs front e
   stands-end (odd vs front h o) = end-odd vs front h o
   stands-end (alone q vs a b l) = end-alone q vs a b l
-
-never : {t : Bool} → t ≡ true → t ≡ false → ⊥
-never {t} y x =
-    let z : _≡_ {A = Bool} true false = sym y ∙ x in
-    let one : _≡_ {A = ℕ} 0 1 = ap (λ (u : Bool). pick u 0 1) z in
-    omega arith
 
 no-length : (l : List ℕ) → length l ≡ 0 → l ≡ []
 no-length [] e = refl
@@ -227,7 +222,7 @@ module _ (r : Reader) (H : List ℕ) (p n : ℕ) (K : List ℕ → Outcome) (c :
           pairs = pairs-snoc h c (o .pairs);
           holds = sym two;
           back = λ u. (append-nil H ∙ o .out ∙ rw (empty, append-nil), rw (value, values-snoc h c (o .pairs), empty));
-          out = λ u. absurd (never two u);
+          out = λ u. absurd (contrary two u);
           rest = rest-pair;
         })
 
@@ -252,7 +247,7 @@ module _ (r : Reader) (H : List ℕ) (p n : ℕ) (K : List ℕ → Outcome) (c :
           short = omega arith;
           pairs = pairs-snoc h c (o .pairs);
           holds = o .holds ∙ sym more-than;
-          back = λ u. absurd (never u more-than);
+          back = λ u. absurd (contrary u more-than);
           out = λ u. rw (value, values-snoc h c (o .pairs), o .out) (append-assoc vs (valuesOf front) ((digitOf h * 16 + digitOf c) ∷ []));
           rest = rest-pair;
         })

@@ -1,12 +1,11 @@
 -- What holds of every answer of read and write: the contract leaves no choice, what is reported fits what was lent, and a call with room gets on.
-use mathlib.Core.Bool.{Bool, true, false}
+use mathlib.Core.Bool.{false}
 use mathlib.Core.List.{List, [], _∷_}
-use mathlib.Core.Path.{_≡_, sym, ap, _∙_}
+use mathlib.Core.Path.{_≡_, sym, _∙_}
 use Prim.Native.Nat.{ℕ, _-_, _≤_, _<_}
 use native.Mathlib.Decide.{decLe}
 use native.Mathlib.Omega.{arith}
 use lib.ListN.{length, length-append}
-use Rattle.words.specs.Notation.{pick}
 use Rattle.words.proofs.Pick.{cases, by-pick}
 use Rattle.sequence.specs.Piece.{Piece, stop, further, Fills}
 use Rattle.sequence.specs.Reading.{isRefused, stepOf, next, givenOf, given, reading, Reads}
@@ -16,6 +15,7 @@ use Rattle.sequence.specs.declared.reader.ReadAnswer.{ReadAnswer}
 use Rattle.sequence.specs.declared.step.Stepped.{Stepped}
 use Rattle.sequence.specs.declared.writer.Writer.{Writer}
 use Rattle.sequence.specs.declared.writer.WriteAnswer.{WriteAnswer}
+use Rattle.sequence.proofs.Contrary.{contrary}
 use Rattle.sequence.proofs.Taking.{reading-refused, reading-full, reading-more}
 
 module _ {S : Type 0} {p : Piece S} {before after after′ : List ℕ} {s s′ : S} {t t′ w w′ : ℕ} (a : Fills p before after s t w) (b : Fills p before after′ s′ t′ w′) where
@@ -80,5 +80,5 @@ pub read-gets-on : (room : ℕ) (r : Reader) (c : ℕ) (cs : List ℕ) → 0 < r
 unfolding stop further
 read-gets-on room r c cs some sound =
     cases (isRefused (next r c .verdict))
-    (λ e. absurd (let z : _≡_ {A = Bool} true false = sym e ∙ (rw (reading-refused room r c cs e) at sound) in let one : _≡_ {A = ℕ} 0 1 = ap (λ (t : Bool). pick t 0 1) z in omega arith))
+    (λ e. absurd (contrary e (rw (reading-refused room r c cs e) at sound)))
     (λ e. let few = given-few (stepOf r c) in rw (reading-more room r c cs e (omega arith)) (omega arith))
