@@ -134,6 +134,8 @@ fn hold_always(call: &Call, found: &Parts) -> Result<(), String> {
     let beyond = |octets: &[u8]| write_octets(&octets[written..]);
     same("out beyond the octets", &beyond(&found.out), &beyond(out))?;
     if found.number == 0 {
+        hold_header(call, &found.out)?;
+        hold_number(call, found.state)?;
         return at_most("moved", found.moved, written);
     }
     same("moved", &found.moved, &0)?;
@@ -163,10 +165,57 @@ fn handed_in(call: &Call) -> (&[u8], Option<State>) {
 
 /// How many octets a success writes, by the lengths of what is handed in.
 fn due_octets(call: &Call) -> usize {
+    let head = due_header(call).len();
     match call {
-        Call::Encode(c) => 2 + usize::from(c.width) * (c.samples.len() / 8),
+        Call::Encode(c) => head + usize::from(c.width) * (c.samples.len() / 8),
         Call::Decode(c) => 8 * usize::from(c.frame[1]),
-        Call::Drop(c) => 2 + usize::from(c.width) * usize::from(c.frame[1]),
+        Call::Drop(c) => head + usize::from(c.width) * usize::from(c.frame[1]),
         _ => 0,
     }
+}
+
+/// The header of the frame that a success writes; nothing where it writes none.
+fn due_header(call: &Call) -> Vec<u8> {
+    let header = |edition: u8, width: u8, core: u8, groups: u8, number: u8| {
+        let first = 64 * u32::from(edition) + 8 * u32::from(width) + u32::from(core);
+        match edition {
+            2 => vec![first as u8, groups, number],
+            _ => vec![first as u8, groups],
+        }
+    };
+    match call {
+        Call::Encode(c) => {
+            let groups = (c.samples.len() / 8) as u8;
+            header(c.edition, c.width, c.state.core, groups, c.state.number)
+        }
+        Call::Drop(c) => match c.frame.as_slice() {
+            [first, groups, third, ..] => header(first >> 6, c.width, first & 7, *groups, *third),
+            _ => Vec::new(),
+        },
+        _ => Vec::new(),
+    }
+}
+
+fn hold_header(call: &Call, out: &[u8]) -> Result<(), String> {
+    let due = due_header(call);
+    same("header", &&out[..due.len()], &due.as_slice())
+}
+
+/// A success in edition 2 has had the due number and moves it on; one in edition 1 does not look at it.
+fn hold_number(call: &Call, found: Option<State>) -> Result<(), String> {
+    let (edition, given) = match call {
+        Call::Encode(c) => (c.edition, c.state.number),
+        Call::Decode(c) => (c.frame[0] >> 6, c.state.number),
+        _ => return Ok(()),
+    };
+    let due = match (edition, given) {
+        (2, 255) => 0,
+        (2, number) => number + 1,
+        (_, number) => number,
+    };
+    match call {
+        Call::Decode(c) if edition == 2 => same("number of the frame", &c.frame[2], &given)?,
+        _ => {}
+    }
+    same("next number", &found.map(|state| state.number), &Some(due))
 }
