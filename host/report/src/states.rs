@@ -56,8 +56,8 @@ pub fn slow_scales(lines: &[String]) -> Vec<u32> {
 mod tests {
     use super::*;
 
-    fn line(frame: usize, last: u8) -> String {
-        format!("{frame} 544 34816{} {last}", " 0".repeat(23))
+    fn line(frame: usize, core: u8) -> String {
+        format!("{frame} 544 34816{} {core} 0", " 0".repeat(22))
     }
 
     #[test]
