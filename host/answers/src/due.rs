@@ -2,6 +2,7 @@
 
 use crate::call::Call;
 use crate::fields::{octets, state, write_octets, write_state};
+use crate::rows::due_reply;
 use crate::text_due;
 use second::state::State;
 use second::text::Verdict;
@@ -119,9 +120,10 @@ pub fn same<T: PartialEq + std::fmt::Debug>(what: &str, found: &T, due: &T) -> R
     Err(format!("{what} {found:?}, where {due:?} is due"))
 }
 
-/// What the rules say of every answer: a refusal reports nothing, writes nothing and keeps the state; a success writes as many
+/// What the rules say of every answer: its number is that of the first row that applies; a refusal reports nothing, writes nothing and keeps the state; a success writes as many
 /// octets as the call's own form says, and the buffer beyond them stays.
 fn hold_always(call: &Call, found: &Parts) -> Result<(), String> {
+    same("number", &Some(found.number), &due_reply(call))?;
     let (out, kept) = handed_in(call);
     let written = if found.number == 0 {
         due_octets(call)
@@ -201,7 +203,7 @@ fn hold_header(call: &Call, out: &[u8]) -> Result<(), String> {
     same("header", &&out[..due.len()], &due.as_slice())
 }
 
-/// A success in edition 2 has had the due number and moves it on; one in edition 1 does not look at it.
+/// A success in edition 2 moves the number on, and one in edition 1 leaves it.
 fn hold_number(call: &Call, found: Option<State>) -> Result<(), String> {
     let (edition, given) = match call {
         Call::Encode(c) => (c.edition, c.state.number),
@@ -213,9 +215,5 @@ fn hold_number(call: &Call, found: Option<State>) -> Result<(), String> {
         (2, number) => number + 1,
         (_, number) => number,
     };
-    match call {
-        Call::Decode(c) if edition == 2 => same("number of the frame", &c.frame[2], &given)?,
-        _ => {}
-    }
     same("next number", &found.map(|state| state.number), &Some(due))
 }
