@@ -1,5 +1,6 @@
 pub mod Gathering
 pub mod Collecting
+pub mod Numbered
 pub mod Headers
 pub mod Sizes
 pub mod Laying
