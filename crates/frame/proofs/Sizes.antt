@@ -30,6 +30,11 @@ pub frame-length : (h : Header) (codewords : List ℕ) → length (frameOf h cod
 unfolding frameOf
 frame-length h codewords = simp (length-append, planes-length, octets-length)
 
+-- no edition has longer frames than the numbered one
+pub groups-most : (e : ℕ) → mostGroups e ≤ mostGroups numbered
+unfolding mostGroups
+groups-most e = omega arith
+
 -- the octets that are room enough for any frame of an edition
 abbrev pub mostOctets : ℕ → ℕ
 mostOctets e = frameLength e 5 (mostGroups e)
