@@ -5,4 +5,6 @@ pub mod Narrower
 pub mod Buffers
 pub mod Observer
 pub mod Fit
+pub mod Numbers
+pub mod Histories
 pub mod Witness
