@@ -38,7 +38,7 @@ pub bearing-same : {core core′ n n′ : ℕ} {frame : List ℕ} → core ≡ c
 bearing-same e e′ b = record { sound = b .sound; numbered = b .numbered; number-is = b .number-is ∙ e′; core-is = b .core-is ∙ e }
 
 -- what a call writes bears the state's number
-written-bears : (s : State) (c : Sending) → writes s c ≡ true → Bearing (s .core) (s .number) (written s c)
+pub written-bears : (s : State) (c : Sending) → writes s c ≡ true → Bearing (s .core) (s .number) (written s c)
 written-bears s c t =
     let rows = both (isNumbered (c .edition)) _ t in
     let fits = eqb-true (sendReply s c) 0 (rows .1) in

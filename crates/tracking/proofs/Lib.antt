@@ -7,4 +7,6 @@ pub mod Observer
 pub mod Fit
 pub mod Numbers
 pub mod Histories
+pub mod Losses
 pub mod Witness
+pub mod LossWitness

@@ -30,7 +30,7 @@ stream =
     ∷ []
 
 -- nothing is asked of the samples but that they are eight
-fit : (e n : ℕ) → Within plain numbered e → headerLength e ≡ n → (samples : List ℕ) → length samples ≡ 8 → Fit 2 (transfer e n samples)
+pub fit : (e n : ℕ) → Within plain numbered e → headerLength e ≡ n → (samples : List ℕ) → length samples ≡ 8 → Fit 2 (transfer e n samples)
 unfolding mostGroups
 fit e n known long samples eight =
     record {
