@@ -27,7 +27,8 @@ module _ (s : State) (LAW : ℕ) (h : Header) (n room : ℕ) where
           range = range-says s (not-false _ (none .0));
           sound = sound-says h n (apart .0);
           core = eqb-true (h .core) (s .core) (not-false _ (apart .1 .0));
-          space = ltb-false room (sampleCount h) (apart .1 .1 .0);
+          due = not-false _ (apart .1 .1 .0);
+          space = ltb-false room (sampleCount h) (apart .1 .1 .1 .0);
         },
       )
 
@@ -36,7 +37,7 @@ module _ (s : State) (LAW : ℕ) (h : Header) (n room : ℕ) where
   decode-of law k =
       first-of _ (
         rw (range-of s (k .range)),
-        (rw (le-leb LAW 1 law), none-joined (frameRows h n) (decodeRows s h room) (sound-none h n (k .sound)) (rw (eq-eqb _ _ (k .core)), (le-ltb _ _ (k .space), tt))),
+        (rw (le-leb LAW 1 law), none-joined (frameRows h n) (decodeRows s h room) (sound-none h n (k .sound)) (rw (eq-eqb _ _ (k .core)), (rw (k .due), (le-ltb _ _ (k .space), tt)))),
       )
 
   -- past the first two rows it is the frame's number, and past the frame's own rows that of the rows behind them

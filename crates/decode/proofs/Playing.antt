@@ -14,6 +14,8 @@ use Rattle.sample.specs.declared.pcm.Played.{Played}
 use Rattle.sample.specs.Decode.{decodeOf, decoderNext}
 use Rattle.g711.specs.Compress.{COMPRESS}
 use Rattle.sample.specs.Pcm.{SD, playOf, byteOf, movedOf}
+use Rattle.frame.specs.declared.header.Header.{Header}
+use Rattle.frame.specs.Header.{numberAfter}
 use Rattle.decode.specs.Codewords.{decodedMemory, decodedState}
 use Rattle.decode.specs.Decode.{decodedBytes, decodedMoved}
 use Rattle.decode.specs.Inner.{DecodesAll}
@@ -41,9 +43,9 @@ module _ (LAW core width : ℕ) (m : Memory) (cws before : List ℕ) where
       rw (is, moves-on LAW core width t (getD cws k 0))
       (decoding-more _ _ _ _ _ _ _ 0 c more pair short (moved-bit LAW core width t (getD cws k 0)))
 
-module _ (LAW : ℕ) (s : State) (width : ℕ) (cws before : List ℕ) where
-  pub playing-done : {k : ℕ} {t : Memory} {sum : ℕ} {out : List ℕ} → Playing LAW (s .core) width (s .memory) cws before k t sum out → length cws ≤ k
-      → DecodesAll LAW s width cws before out (record { moved = sum; state = movedOn s t })
+module _ (LAW : ℕ) (s : State) (h : Header) (cws before : List ℕ) where
+  pub playing-done : {k : ℕ} {t : Memory} {sum : ℕ} {out : List ℕ} → Playing LAW (s .core) (h .width) (s .memory) cws before k t sum out → length cws ≤ k
+      → DecodesAll LAW s h cws before out (record { moved = sum; state = movedOn s t (numberAfter (h .edition) (s .number)) })
   unfolding decodedState decodedMemory decodedBytes decodedMoved
   playing-done c all =
       let d = decoding-done _ _ _ _ _ _ _ c all in

@@ -15,7 +15,7 @@ use Rattle.state.specs.Range.{inRange}
 use Rattle.sample.specs.Decode.{decoderNext}
 use Rattle.sample.specs.Pcm.{byteOf, movedOf}
 use Rattle.frame.specs.declared.header.Header.{Header}
-use Rattle.frame.specs.Header.{headerOf, sampleCount}
+use Rattle.frame.specs.Header.{headerOf, sampleCount, isDue}
 use Rattle.frame.specs.Read.{received}
 use Rattle.frame.specs.Rows.{frameRows}
 use Rattle.replies.specs.Reply.{numberOf, isLaw}
@@ -23,10 +23,11 @@ use Rattle.decode.specs.declared.DecodeAnswer.{DecodeAnswer}
 use Rattle.decode.specs.Codewords.{decodedState}
 
 -- the rows behind the frame's own, for a length of out; and all of them, for a frame of n octets with the header h: 4, 9, the frame's 5, 1,
--- 2 and 6, then 7 and 3
+-- 2 and 6, then 7, 10 and 3
 abbrev pub decodeRows : State → Header → ℕ → List Row
 decodeRows s h room =
     (7, not (eqb (h .core) (s .core))) ∷
+    (10, not (isDue h (s .number))) ∷
     (3, ltb room (sampleCount h)) ∷ []
 
 unfoldable pub decodeNumber : State → ℕ → Header → ℕ → ℕ → ℕ
@@ -52,7 +53,7 @@ module _ (s : State) (LAW : ℕ) (frame before : List ℕ) where
   decodeMoved = pick (eqb decodeReply 0) (decodedMoved LAW (s .core) (headerOf frame .width) (s .memory) (received frame)) 0
 
   unfoldable pub decodeState : State
-  decodeState = pick (eqb decodeReply 0) (decodedState s (headerOf frame .width) (received frame)) s
+  decodeState = pick (eqb decodeReply 0) (decodedState s (headerOf frame) (received frame)) s
 
   unfoldable pub decodeOut : List ℕ
   decodeOut = pick (eqb decodeReply 0) (decodedBytes LAW (s .core) (headerOf frame .width) (s .memory) (received frame) ++ drop (sampleCount (headerOf frame)) before) before

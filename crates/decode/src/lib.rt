@@ -12,6 +12,8 @@ ghost use Rattle.decode.specs.Inner.{DecodesAll};
 use frame::header::Header;
 use frame::header::frame_reply;
 use frame::header::header_length;
+use frame::header::is_due;
+use frame::header::number_after;
 use frame::header::read_header;
 use frame::header::sample_count;
 use frame::planes::codeword_at;
@@ -76,6 +78,9 @@ fn decode_reply(s: State, law: u8, h: Header, length: usize, room: usize) -> Rep
     if h.core != s.core {
         return Reply::Core;
     }
+    if !is_due(h, s.number) {
+        return Reply::Number;
+    }
     if room < sample_count(h) {
         return Reply::Room;
     }
@@ -85,7 +90,7 @@ fn decode_reply(s: State, law: u8, h: Header, length: usize, room: usize) -> Rep
 // Each sample's byte, from the frame's planes, and what the state and the moved count come to
 fn decode_into(s: State, law: u8, h: Header, planes: &[u8], out: &mut [u8]) -> DecodedFrame
     requires { ⌜ InRange s × SoundHeader h × (h .core ≡ s .core) × (h .width * h .groups ≤ length (now planes)) × (sampleCount h ≤ length (now out)) ⌝ }
-    ensures { λ r. ⌜ DecodesAll law s (h .width) (codewords (h .width) (h .groups) (now (planes .entry))) (now (out .entry)) (now (out .exit)) r ⌝ }
+    ensures { λ r. ⌜ DecodesAll law s h (codewords (h .width) (h .groups) (now (planes .entry))) (now (out .entry)) (now (out .exit)) r ⌝ }
 {
     let n = sample_count(h);
     let g = h.groups as usize;
@@ -108,6 +113,6 @@ fn decode_into(s: State, law: u8, h: Header, planes: &[u8], out: &mut [u8]) -> D
     }
     DecodedFrame {
         moved,
-        state: moved_on(s, memory),
+        state: moved_on(s, memory, number_after(h.edition, s.number)),
     }
 }

@@ -10,15 +10,15 @@ use Rattle.encode.specs.declared.EncodeAnswer.{EncodeAnswer}
 use Rattle.encode.specs.Encode.{encodeReply, encodeOctets, Encodes}
 use Rattle.encode.proofs.Fitness.{encode-says}
 
-module _ (s : State) (LAW width : ℕ) (samples before : List ℕ) where
+module _ (s : State) (LAW e width : ℕ) (samples before : List ℕ) where
   -- what is reported as written fits the buffer that was lent
-  pub encode-room : encodeOctets s LAW width samples before ≤ length before
+  pub encode-room : encodeOctets s LAW e width samples before ≤ length before
   unfolding encodeOctets encodeReply
   encode-room =
-      counted _ _ _ (λ e. encode-says s LAW width (length samples) (length before) e .1 .space)
+      counted _ _ _ (λ done. encode-says s LAW e width (length samples) (length before) done .1 .space)
 
   -- two conforming answers are equal, and so are the exit buffers
-  pub encode-equal : (after after′ : List ℕ) (a b : EncodeAnswer) → Encodes s LAW width samples before after a → Encodes s LAW width samples before after′ b
+  pub encode-equal : (after after′ : List ℕ) (a b : EncodeAnswer) → Encodes s LAW e width samples before after a → Encodes s LAW e width samples before after′ b
       → (a ≡ b) × (after ≡ after′)
   encode-equal after after′ a b p q =
       let reply = reply-equal (a .reply) (b .reply) (p .number ∙ sym (q .number)) in

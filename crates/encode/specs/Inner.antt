@@ -33,5 +33,5 @@ pub record EncodesAll (core width : ℕ) (m : Memory) (levels before after : Lis
   pub out : after ≡ encodedCodewords core width m levels ++ drop (length levels) before
 
 pub record EncodesFrame (s : State) (h : Header) (levels before after : List ℕ) (r : State) : Type 0 where
-  pub state : r ≡ encodedState s (h .width) levels
+  pub state : r ≡ encodedState s (h .edition) (h .width) levels
   pub out : after ≡ frameOf h (encodedCodewords (s .core) (h .width) (s .memory) levels) ++ drop (dueLength h) before

@@ -4,17 +4,19 @@ ghost use Prim.Native.Nat.{_*_, _/_, _≤_};
 ghost use lib.ListN.{length};
 ghost use Rattle.quantizer.specs.Pair.{Pair};
 ghost use Rattle.state.specs.InRange.{MemoryInRange};
-ghost use Rattle.frame.specs.Header.{edition, group, mostGroups};
+ghost use Rattle.frame.specs.Header.{numbered, group, mostGroups};
 ghost use Rattle.replies.specs.Reply.{numberOf};
-ghost use Rattle.encode.specs.Levels.{encodedHeader};
+ghost use Rattle.encode.specs.Levels.{dueHeader};
 ghost use Rattle.encode.specs.Encode.{levelsOf, encodeNumber, Encodes};
 ghost use Rattle.encode.specs.Inner.{FourteenBits, Encodable, ExpandsAll, EncodesAll, EncodesFrame};
-use frame::header::EDITION;
 use frame::header::GROUP;
 use frame::header::Header;
 use frame::header::MOST_SAMPLES;
+use frame::header::borne;
 use frame::header::due_length;
 use frame::header::is_count;
+use frame::header::is_edition;
+use frame::header::number_after;
 use frame::whole::write_frame;
 use g711::expand;
 use quantizer::pair::is_pair;
@@ -33,10 +35,17 @@ pub struct EncodeAnswer {
     pub state: State,
 }
 
-pub fn encode(s: State, law: u8, width: u8, samples: &[u8], out: &mut [u8]) -> EncodeAnswer
-    ensures { λ r. ⌜ Encodes s law width (now (samples .entry)) (now (out .entry)) (now (out .exit)) r ⌝ }
+pub fn encode(
+    s: State,
+    law: u8,
+    edition: u8,
+    width: u8,
+    samples: &[u8],
+    out: &mut [u8],
+) -> EncodeAnswer
+    ensures { λ r. ⌜ Encodes s law edition width (now (samples .entry)) (now (out .entry)) (now (out .exit)) r ⌝ }
 {
-    let reply = encode_reply(s, law, width, samples.len(), out.len());
+    let reply = encode_reply(s, law, edition, width, samples.len(), out.len());
     if !is_done(reply) {
         return EncodeAnswer {
             reply,
@@ -44,7 +53,7 @@ pub fn encode(s: State, law: u8, width: u8, samples: &[u8], out: &mut [u8]) -> E
             state: s,
         };
     }
-    let h = encoded_header(s.core, width, samples.len());
+    let h = due_header(s, edition, width, samples.len());
     let next = encode_into(s, law, h, samples, out);
     EncodeAnswer {
         reply,
@@ -53,8 +62,8 @@ pub fn encode(s: State, law: u8, width: u8, samples: &[u8], out: &mut [u8]) -> E
     }
 }
 
-fn encode_reply(s: State, law: u8, width: u8, n: usize, room: usize) -> Reply
-    ensures { λ r. ⌜ numberOf r ≡ encodeNumber s law width n room ⌝ }
+fn encode_reply(s: State, law: u8, edition: u8, width: u8, n: usize, room: usize) -> Reply
+    ensures { λ r. ⌜ numberOf r ≡ encodeNumber s law edition width n room ⌝ }
 {
     if !in_range(s) {
         return Reply::Range;
@@ -62,28 +71,32 @@ fn encode_reply(s: State, law: u8, width: u8, n: usize, room: usize) -> Reply
     if !is_law(law) {
         return Reply::Law;
     }
+    if !is_edition(edition) {
+        return Reply::Header;
+    }
     if !is_pair(width, s.core) {
         return Reply::Pair;
     }
-    if !is_count(EDITION, n) {
+    if !is_count(edition, n) {
         return Reply::Count;
     }
-    if room < due_length(encoded_header(s.core, width, n)) {
+    if room < due_length(due_header(s, edition, width, n)) {
         return Reply::Room;
     }
     Reply::Done
 }
 
 // The header of n samples' frame
-fn encoded_header(core: u8, width: u8, n: usize) -> Header
+fn due_header(s: State, edition: u8, width: u8, n: usize) -> Header
     requires { ⌜ n / group ≤ 255 ⌝ }
-    ensures { λ r. ⌜ r ≡ encodedHeader core width n ⌝ }
+    ensures { λ r. ⌜ r ≡ dueHeader s edition width n ⌝ }
 {
     Header {
-        edition: EDITION,
+        edition,
         width,
-        core,
+        core: s.core,
         groups: (n / GROUP) as u8,
+        number: borne(edition, s.number),
     }
 }
 
@@ -119,7 +132,7 @@ fn encode_levels(s: State, h: Header, levels: &[u16], out: &mut [u8]) -> State
     let memory = encode_all(from, s.core, h.width, levels, &mut codewords);
     let n = levels.len();
     write_frame(&codewords[..n], h, out);
-    moved_on(s, memory)
+    moved_on(s, memory, number_after(h.edition, s.number))
 }
 
 // The codewords of all levels, one to an octet
@@ -140,13 +153,13 @@ fn encode_all(from: Memory, core: u8, width: u8, levels: &[u16], codewords: &mut
 }
 
 fn blank_levels() -> [u16; MOST_SAMPLES]
-    ensures { λ r. ⌜ length r ≡ mostGroups edition * group ⌝ }
+    ensures { λ r. ⌜ length r ≡ mostGroups numbered * group ⌝ }
 {
     [0u16; MOST_SAMPLES]
 }
 
 fn blank_codewords() -> [u8; MOST_SAMPLES]
-    ensures { λ r. ⌜ length r ≡ mostGroups edition * group ⌝ }
+    ensures { λ r. ⌜ length r ≡ mostGroups numbered * group ⌝ }
 {
     [0u8; MOST_SAMPLES]
 }

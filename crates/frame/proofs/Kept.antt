@@ -11,14 +11,14 @@ use Rattle.frame.specs.Header.{headerOf, dueLength}
 use Rattle.frame.specs.Planes.{frameOf}
 use Rattle.frame.specs.Read.{body, narrowed, thinned}
 use Rattle.frame.specs.Sound.{SoundHeader, Sound}
-use Rattle.frame.proofs.Headers.{fields-there, octets-length, sound-fields, written-header, thinned-header}
+use Rattle.frame.proofs.Headers.{Bears, fields-there, octets-length, sound-fields, written-header, thinned-header}
 use Rattle.frame.proofs.Sizes.{frame-length}
 
 sound-whole : {h : Header} {n : ℕ} → SoundHeader h → n ≡ dueLength h → Sound h n
 sound-whole {h} s whole = record { long = omega (arith, fields-there (h .edition)); header = s; whole = whole }
 
-pub written-sound : {h : Header} → SoundHeader h → (codewords : List ℕ) → Sound (headerOf (frameOf h codewords)) (length (frameOf h codewords))
-written-sound {h} s codewords = rw (written-header (sound-fields s) codewords) (sound-whole s (frame-length h codewords))
+pub written-sound : {h : Header} → SoundHeader h → Bears h → (codewords : List ℕ) → Sound (headerOf (frameOf h codewords)) (length (frameOf h codewords))
+written-sound {h} s bears codewords = rw (written-header (sound-fields s bears) codewords) (sound-whole s (frame-length h codewords))
 
 pub narrowed-sound : {h : Header} {w : ℕ} → SoundHeader h → Within (h .core) (h .width) w → SoundHeader (narrowed w h)
 narrowed-sound s width =

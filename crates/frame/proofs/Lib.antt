@@ -1,6 +1,8 @@
 pub mod Gathering
 pub mod Collecting
+pub mod Numbered
 pub mod Headers
+pub mod Due
 pub mod Sizes
 pub mod Laying
 pub mod Sounds

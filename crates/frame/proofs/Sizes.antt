@@ -1,5 +1,5 @@
 -- The lengths of planes and frames, and the octets of a plane.
-use mathlib.Core.Path.{_≡_, sym, _∙_}
+use mathlib.Core.Path.{_≡_, refl, sym, _∙_}
 use mathlib.Core.List.{List}
 use Prim.Native.Nat.{ℕ, zero, suc, _*_, _≤_, _<_}
 use native.Mathlib.Nat.{zero-mul, suc-mul, add-comm, mul-comm, mul-le-mul}
@@ -7,7 +7,7 @@ use native.Mathlib.Omega.{arith}
 use lib.ListN.{length, getD, drop, length-append}
 use Rattle.lists.proofs.Tables.{length-tabulate, getD-tabulate}
 use Rattle.frame.specs.declared.header.Header.{Header}
-use Rattle.frame.specs.Header.{group, headerLength, mostGroups, dueLength}
+use Rattle.frame.specs.Header.{plain, numbered, group, headerLength, mostGroups, frameLength, dueLength}
 use Rattle.frame.specs.Planes.{gather, octetAt, plane, planes, frameOf}
 use Rattle.frame.specs.Sound.{SoundHeader, Sound}
 use Rattle.frame.proofs.Headers.{octets-length}
@@ -30,10 +30,26 @@ pub frame-length : (h : Header) (codewords : List ℕ) → length (frameOf h cod
 unfolding frameOf
 frame-length h codewords = simp (length-append, planes-length, octets-length)
 
--- "202 at most": so many octets are room enough for any frame
-pub length-most : {h : Header} → SoundHeader h → dueLength h ≤ 202
+-- no edition has longer frames than the numbered one
+pub groups-most : (e : ℕ) → mostGroups e ≤ mostGroups numbered
+unfolding mostGroups
+groups-most e = omega arith
+
+-- the octets that are room enough for any frame of an edition
+abbrev pub mostOctets : ℕ → ℕ
+mostOctets e = frameLength e 5 (mostGroups e)
+
+-- "202 at most" in edition 1, and one more in edition 2
+pub most-plain : mostOctets plain ≡ 202
 unfolding headerLength mostGroups
+most-plain = refl
+
+pub most-numbered : mostOctets numbered ≡ 203
+unfolding headerLength mostGroups
+most-numbered = refl
+
+pub length-most : {h : Header} → SoundHeader h → dueLength h ≤ mostOctets (h .edition)
 length-most s = omega (arith, mul-le-mul (s .pair .widths .high) (s .count .high))
 
-pub sound-most : {h : Header} {n : ℕ} → Sound h n → n ≤ 202
+pub sound-most : {h : Header} {n : ℕ} → Sound h n → n ≤ mostOctets (h .edition)
 sound-most s = rw (s .whole) (length-most (s .header))

@@ -13,7 +13,7 @@ use Rattle.words.proofs.Rows.{both}
 use Rattle.words.proofs.Within.{within-says, within-of}
 use Rattle.quantizer.proofs.Pairs.{pair-says, pair-of}
 use Rattle.frame.specs.declared.header.Header.{Header}
-use Rattle.frame.specs.Header.{edition, fewest, group, mostGroups, dueLength, isCount}
+use Rattle.frame.specs.Header.{plain, numbered, fewest, group, mostGroups, dueLength, isCount}
 use Rattle.frame.specs.Rows.{headerRows, frameRows}
 use Rattle.frame.specs.Sound.{SoundHeader, Sound}
 
@@ -21,13 +21,13 @@ module _ (h : Header) where
   pub header-says : NoneApplies (headerRows h) → SoundHeader h
   header-says none =
       record {
-        known = eqb-true (h .edition) edition (not-false _ (none .0));
+        known = within-says plain numbered (h .edition) (not-false _ (none .0));
         pair = pair-says (h .width) (h .core) (not-false _ (none .1 .0));
         count = within-says 1 (mostGroups (h .edition)) (h .groups) (not-false _ (none .1 .1 .0));
       }
 
   pub header-none : SoundHeader h → NoneApplies (headerRows h)
-  header-none s = (rw (eq-eqb _ _ (s .known)), (rw (pair-of (s .pair)), (rw (within-of (s .count)), tt)))
+  header-none s = (rw (within-of (s .known)), (rw (pair-of (s .pair)), (rw (within-of (s .count)), tt)))
 
   module _ (n : ℕ) where
     abbrev lengthRow : List Row

@@ -1,4 +1,5 @@
 -- A frame read, and a frame thinned (docs/RULES.md, "The frame"): "Dropping to width w keeps the first w planes and writes w in the x field."
+-- "Dropping keeps the number octet."
 use mathlib.Core.List.{List, _++_}
 use Prim.Native.Nat.{ℕ, zero, suc, _+_, _-_, _*_, _/_, _%_}
 use lib.ListN.{getD, take, drop}
@@ -28,7 +29,7 @@ received frame = codewords (headerOf frame .width) (headerOf frame .groups) (bod
 
 -- the header with w in its x field, and the frame with its first w planes
 abbrev pub narrowed : ℕ → Header → Header
-narrowed w h = record { edition = h .edition; width = w; core = h .core; groups = h .groups }
+narrowed w h = record { edition = h .edition; width = w; core = h .core; groups = h .groups; number = h .number }
 
 unfoldable pub thinned : ℕ → List ℕ → List ℕ
 thinned w frame = headerOctets (narrowed w (headerOf frame)) ++ take (w * headerOf frame .groups) (body frame)

@@ -5,10 +5,10 @@ use Prim.Native.Nat.{ℕ, _≤_}
 use Rattle.words.specs.Within.{Within}
 use Rattle.quantizer.specs.Pair.{Pair}
 use Rattle.frame.specs.declared.header.Header.{Header}
-use Rattle.frame.specs.Header.{edition, fewest, mostGroups, dueLength}
+use Rattle.frame.specs.Header.{plain, numbered, fewest, mostGroups, dueLength}
 
 pub record SoundHeader (h : Header) : Type 0 where
-  pub known : h .edition ≡ edition
+  pub known : Within plain numbered (h .edition)
   pub pair : Pair (h .width) (h .core)
   pub count : Within 1 (mostGroups (h .edition)) (h .groups)
 

@@ -4,7 +4,7 @@ ghost use mathlib.Core.Path.{_≡_};
 ghost use lib.ListN.{getD};
 ghost use Rattle.words.specs.First.{first};
 ghost use Rattle.replies.specs.Reply.{numberOf};
-ghost use Rattle.frame.specs.Header.{headerLength, head, headerOf, dueLength, sampleCount, isEdition, isGroups, isCount};
+ghost use Rattle.frame.specs.Header.{headerLength, head, borne, headerOf, dueLength, sampleCount, isEdition, isNumbered, isGroups, isCount, isDue, numberAfter};
 ghost use Rattle.frame.specs.Rows.{headerRows, frameRows};
 ghost use Rattle.frame.specs.Sound.{SoundHeader};
 use quantizer::pair::is_pair;
@@ -12,7 +12,9 @@ use replies::Reply;
 use replies::is_done;
 
 // The limits of specs/Header.antt
-pub const EDITION: u8 = 1;
+pub const PLAIN: u8 = 1;
+
+pub const NUMBERED: u8 = 2;
 
 pub const FEWEST: usize = 2;
 
@@ -27,6 +29,7 @@ pub struct Header {
     pub width: u8,
     pub core: u8,
     pub groups: u8,
+    pub number: u8,
 }
 
 pub fn read_header(frame: &[u8]) -> Header
@@ -34,11 +37,13 @@ pub fn read_header(frame: &[u8]) -> Header
 {
     let first = octet_at(frame, 0);
     let groups = octet_at(frame, 1);
+    let number = borne(first >> 6, octet_at(frame, 2));
     Header {
         edition: first >> 6,
         width: (first >> 3) % 8,
         core: first % 8,
         groups,
+        number,
     }
 }
 
@@ -59,10 +64,29 @@ pub fn head(h: Header) -> u8
     (h.edition << 6) + h.width * 8 + h.core
 }
 
-// The octets before the planes. There is one edition so far, and one length.
+pub fn is_numbered(e: u8) -> bool
+    ensures { λ r. ⌜ r ≡ isNumbered e ⌝ }
+{
+    e == NUMBERED
+}
+
+// The number in the header of a frame of this edition, where n is the next one
+pub fn borne(e: u8, n: u8) -> u8
+    ensures { λ r. ⌜ r ≡ borne e n ⌝ }
+{
+    if is_numbered(e) {
+        return n;
+    }
+    0
+}
+
+// The octets before the planes
 pub fn header_length(e: u8) -> usize
     ensures { λ r. ⌜ r ≡ headerLength e ⌝ }
 {
+    if is_numbered(e) {
+        return 3;
+    }
     2
 }
 
@@ -81,10 +105,10 @@ pub fn sample_count(h: Header) -> usize
 pub fn is_edition(e: u8) -> bool
     ensures { λ r. ⌜ r ≡ isEdition e ⌝ }
 {
-    e == EDITION
+    (PLAIN <= e) & (e <= NUMBERED)
 }
 
-// Whether a frame of this edition may have so many groups. There is one edition so far, and one limit.
+// Whether a frame of this edition may have so many groups. Both editions have one limit so far.
 pub fn is_groups(e: u8, g: u8) -> bool
     ensures { λ r. ⌜ r ≡ isGroups e g ⌝ }
 {
@@ -96,6 +120,26 @@ pub fn is_count(e: u8, n: usize) -> bool
     ensures { λ r. ⌜ r ≡ isCount e n ⌝ }
 {
     (n % GROUP == 0) & ((GROUP <= n) & (n <= MOST_SAMPLES))
+}
+
+// Whether a decoder whose next number is this one takes the frame's
+pub fn is_due(h: Header, number: u8) -> bool
+    ensures { λ r. ⌜ r ≡ isDue h number ⌝ }
+{
+    !is_numbered(h.edition) | (h.number == number)
+}
+
+// The number that is due behind a frame of this edition, where n was
+pub fn number_after(e: u8, n: u8) -> u8
+    ensures { λ r. ⌜ r ≡ numberAfter e n ⌝ }
+{
+    if !is_numbered(e) {
+        return n;
+    }
+    if n == 255 {
+        return 0;
+    }
+    n + 1
 }
 
 // The first row that applies to the header alone

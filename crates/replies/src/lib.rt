@@ -14,6 +14,7 @@ pub enum Reply {
     Core,
     Target,
     Law,
+    Number,
 }
 
 // The number of a reply, for whoever prints or sends it.
@@ -31,6 +32,7 @@ pub fn number_of(reply: Reply) -> u8
         Reply::Core => 7,
         Reply::Target => 8,
         Reply::Law => 9,
+        Reply::Number => 10,
     }
 }
 

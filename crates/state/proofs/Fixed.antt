@@ -66,6 +66,7 @@ module _ (s t : State) (ws : Words (s .memory)) (wt : Words (t .memory)) (e : nu
               td = number 23 i;
             };
         core = number 24 i;
+        number = number 25 i;
       }
 
 -- `same_state` answers true of equal states alone

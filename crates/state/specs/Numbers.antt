@@ -9,7 +9,7 @@ use Rattle.state.specs.declared.State.{State}
 
 -- how many there are
 abbrev pub count : ℕ
-count = 25
+count = 26
 
 unfoldable pub numbersOf : State → List ℕ
 numbersOf s =
@@ -19,7 +19,7 @@ numbersOf s =
     getD (m .b) 0 0 ∷ getD (m .b) 1 0 ∷ getD (m .b) 2 0 ∷ getD (m .b) 3 0 ∷ getD (m .b) 4 0 ∷ getD (m .b) 5 0 ∷
     getD (m .dq) 0 0 ∷ getD (m .dq) 1 0 ∷ getD (m .dq) 2 0 ∷ getD (m .dq) 3 0 ∷ getD (m .dq) 4 0 ∷ getD (m .dq) 5 0 ∷
     m .sr1 ∷ m .sr2 ∷ m .pk1 ∷ m .pk2 ∷ m .td ∷
-    s .core ∷ []
+    s .core ∷ s .number ∷ []
 
 unfoldable pub sameNumbers : List ℕ → List ℕ → Bool
 sameNumbers [] [] = true

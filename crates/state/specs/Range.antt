@@ -1,5 +1,5 @@
--- The table of the state's ranges (docs/RULES.md, "The state"), row by row, as a test. A1, A2 and B1 to B6 may be any 16-bit word, so they have no test: Words.antt says that
--- they are words, and engine/proofs/Words.antt shows it of every state that a step gives.
+-- The table of the state's ranges (docs/RULES.md, "The state"), row by row, as a test. A1, A2 and B1 to B6 may be any 16-bit word and the number any octet, so they have no
+-- test: Words.antt says that A1, A2 and B1 to B6 are words, and engine/proofs/Words.antt shows it of every state that a step gives.
 use mathlib.Core.Bool.{Bool}
 use mathlib.Core.List.{List, [], _∷_}
 use Prim.Native.Nat.{ℕ, _%_}

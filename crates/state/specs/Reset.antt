@@ -1,4 +1,5 @@
--- The reset state: DELAY's output where reset is invoked, the column "optional reset values" of Table 7/G.727, which the rules' table repeats.
+-- The reset state: DELAY's output where reset is invoked, the column "optional reset values" of Table 7/G.727, which the rules' table repeats;
+-- and 0 for the number of the next frame.
 use mathlib.Core.List.{[], _∷_}
 use Prim.Native.Nat.{ℕ}
 use Rattle.state.specs.declared.memory.Memory.{Memory}
@@ -24,4 +25,4 @@ resetMemory =
     }
 
 unfoldable pub resetOf : ℕ → State
-resetOf core = record { memory = resetMemory; core = core }
+resetOf core = record { memory = resetMemory; core = core; number = 0 }

@@ -1,5 +1,6 @@
-// The state that an encoder and a decoder carry from frame to frame: the memory, which a step moves on, and the core,
-// which no step touches. A struct by value: a call takes one and hands the next one back.
+// The state that an encoder and a decoder carry from frame to frame: the memory, which a step moves on, the core, which
+// nothing moves on, and the next number, which a frame that bears one moves on. A struct by value: a call takes one and
+// hands the next one back.
 pub mod memory;
 pub mod numbers;
 
@@ -15,6 +16,7 @@ use crate::memory::within;
 pub struct State {
     pub memory: Memory,
     pub core: u8,
+    pub number: u8,
 }
 
 pub fn reset(core: u8) -> State
@@ -23,17 +25,22 @@ pub fn reset(core: u8) -> State
     State {
         memory: reset_memory(),
         core,
+        number: 0,
     }
 }
 
-// The state whose memory a run has moved on; all else of it stays.
-pub fn moved_on(s: State, memory: Memory) -> State
-    ensures { λ r. ⌜ r ≡ movedOn s memory ⌝ }
+// The state whose memory and number a frame has moved on; the core stays.
+pub fn moved_on(s: State, memory: Memory, number: u8) -> State
+    ensures { λ r. ⌜ r ≡ movedOn s memory number ⌝ }
 {
-    State { memory, ..s }
+    State {
+        memory,
+        number,
+        ..s
+    }
 }
 
-// The rules' table of ranges, its last row too
+// The rules' table of ranges, the core's row too. The number may be any octet, so it has no test.
 pub fn in_range(s: State) -> bool
     ensures { λ r. ⌜ r ≡ inRange s ⌝ }
 {

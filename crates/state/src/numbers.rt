@@ -4,7 +4,7 @@ ghost use mathlib.Core.Path.{_≡_};
 ghost use Rattle.state.specs.Numbers.{numbersOf, sameNumbers};
 use crate::State;
 
-pub const NUMBERS: usize = 25;
+pub const NUMBERS: usize = 26;
 
 pub fn numbers(s: State) -> [u32; NUMBERS]
     ensures { λ r. ⌜ r ≡ numbersOf s ⌝ }
@@ -38,6 +38,7 @@ pub fn numbers(s: State) -> [u32; NUMBERS]
         of_word(m.pk2),
         of_word(m.td),
         of_octet(s.core),
+        of_octet(s.number),
     ]
 }
 

@@ -9,12 +9,14 @@ use Rattle.state.specs.declared.State.{State}
 use Rattle.state.specs.Reset.{resetOf}
 use Rattle.state.specs.InRange.{InRange}
 use Rattle.state.proofs.Ranges.{reset-in-range}
+use Rattle.frame.specs.declared.header.Header.{Header}
 use Rattle.frame.specs.Header.{headerOf}
-use Rattle.frame.specs.Read.{thinned}
+use Rattle.frame.specs.Read.{narrowed, thinned}
 use Rattle.frame.specs.Sound.{Sound}
 use Rattle.frame.proofs.Headers.{thinned-header}
 use Rattle.frame.proofs.Kept.{thinned-sound}
-use Rattle.encode.specs.Levels.{encodedFrame, encodedMemory, encodedState}
+use Rattle.frame.proofs.Due.{due-of-borne}
+use Rattle.encode.specs.Levels.{dueHeader, encodedFrame, encodedMemory, encodedState}
 use Rattle.encode.specs.Encode.{encodeReply}
 use Rattle.encode.specs.Inner.{Encodable}
 use Rattle.encode.proofs.Fitness.{encode-of}
@@ -23,7 +25,8 @@ use Rattle.drop_planes.proofs.Fitness.{drop-of}
 use Rattle.decode.specs.Decode.{decodeReply}
 use Rattle.decode.specs.Inner.{Decodable}
 use Rattle.decode.proofs.Fitness.{decode-of}
-use Rattle.tracking.specs.Stream.{Station, Transfer, encoderAfter, Passed, finally, decoderAfter, Unrefused, AllUnrefused, EqualThroughout, Narrowing, sentHeader, Fit, AllFit}
+use Rattle.tracking.specs.Calls.{Sending, Station, sendReply, encoderAfter, decoderAfter, Passed, finally}
+use Rattle.tracking.specs.Stream.{Transfer, heard, Unrefused, AllUnrefused, EqualThroughout, Narrowing, sentHeader, FitSending, Fit, AllFit}
 use Rattle.tracking.proofs.Runs.{run-in-range}
 use Rattle.tracking.proofs.Frames.{sentLevels, levels-sized, Sendable, written-is, encoder-is, passed-is, arrives}
 use Rattle.tracking.proofs.Demand3.{frame-sound, frame-header, transfer-tracks, stream-tracks}
@@ -38,60 +41,81 @@ passes frame (b ∷ bs) sound d =
     let on = passed-is frame b fits in
     (fits, rw on (passes (thinned (b .width) frame) bs (thinned-sound frame sound (d .0)) (rw (thinned-header small frame) (d .2))))
 
-module _ (s : State) (x : Transfer) (i : InRange s) (k : Fit (s .core) x) where
-  able : Encodable s (sentHeader (s .core) x) (length (x .samples)) (length (x .buffer))
-  able = record { range = i; header = k .header; core = refl; whole = k .whole; space = k .room }
+-- a call of encode with fit inputs, at a state in range
+module _ (s : State) (c : Sending) (i : InRange s) (k : FitSending (s .core) c) where
+  pub able : Encodable s (dueHeader s (c .edition) (c .width) (length (c .samples))) (length (c .samples)) (length (c .buffer))
+  able =
+      let header = k .header in
+      record { range = i; header = record { known = header .known; pair = header .pair; count = header .count }; core = refl; whole = k .whole; space = k .room }
 
-  encodes : encodeReply s (x .law) (x .width) (x .samples) (x .buffer) ≡ 0
+  pub sends : sendReply s c ≡ 0
   unfolding encodeReply
-  encodes = encode-of s (x .law) (x .width) (length (x .samples)) (length (x .buffer)) (k .law) able
+  sends = encode-of s (c .law) (c .edition) (c .width) (length (c .samples)) (length (c .buffer)) (k .law) able
 
-  sendable : Sendable s (x .width) (sentLevels x) (length (x .buffer))
-  sendable = rw (levels-sized x) able
+  pub after-in-range : InRange (encoderAfter s c)
+  unfolding encodedState encodedMemory
+  after-in-range = rw (encoder-is s c sends) (record { memory = run-in-range (k .header .pair) (s .memory) (i .memory) (sentLevels c); cores = i .cores })
+
+  pub after-core : encoderAfter s c .core ≡ s .core
+  unfolding encodedState
+  after-core = rw (encoder-is s c sends)
+
+-- what base stations ask of a header is not its number
+narrowing-numbered : (h : Header) (n : ℕ) (stations : List Station) → Narrowing h stations → Narrowing (record { edition = h .edition; width = h .width; core = h .core; groups = h .groups; number = n }) stations
+narrowing-numbered h n [] d = tt
+narrowing-numbered h n (b ∷ bs) d = (d .0, d .1, narrowing-numbered (narrowed (b .width) h) n bs (d .2))
+
+module _ (s : State) (x : Transfer) (i : InRange s) (k : Fit (s .core) x) where
+  abbrev c : Sending
+  c = x .sent
+
+  encodes : sendReply s c ≡ 0
+  encodes = sends s c i (k .sending)
+
+  sendable : Sendable s (c .edition) (c .width) (sentLevels c) (length (c .buffer))
+  sendable = rw (levels-sized c) (able s c i (k .sending))
 
   abbrev frame : List ℕ
-  frame = encodedFrame s (x .width) (sentLevels x)
+  frame = encodedFrame s (c .edition) (c .width) (sentLevels c)
 
   sound : Sound (headerOf frame) (length frame)
-  sound = frame-sound s (x .width) (sentLevels x) sendable
+  sound = frame-sound s (c .edition) (c .width) (sentLevels c) sendable
 
-  header : headerOf frame ≡ sentHeader (s .core) x
-  header = frame-header s (x .width) (sentLevels x) sendable ∙ rw (levels-sized x)
+  header : headerOf frame ≡ dueHeader s (c .edition) (c .width) (length (c .samples))
+  header = frame-header s (c .edition) (c .width) (sentLevels c) sendable ∙ rw (levels-sized c)
 
   drops : Passed frame (x .stations)
-  drops = passes frame (x .stations) sound (rw header (k .stations))
+  drops = passes frame (x .stations) sound (rw header (narrowing-numbered (sentHeader (s .core) c) _ (x .stations) (k .stations)))
 
   pub transfer-fits : Unrefused s s x
   unfolding decodeReply
   transfer-fits =
-      let sent = written-is s x encodes in
+      let sent = written-is s c encodes in
       let a = arrives frame (x .stations) sound drops in
       let v = finally (headerOf frame .width) (x .stations) in
       let small : v < 8 = omega (arith, a .width .high, sound .header .pair .widths .high) in
       let arrives-with = thinned-header small frame in
-      let decodable : Decodable s (headerOf (thinned v frame)) (length (thinned v frame)) (length (x .buffer′)) =
-      record { range = i; sound = thinned-sound frame sound (a .width); core = rw (arrives-with, header); space = rw (arrives-with, header) (omega (arith, k .whole, k .room′)) } in
+      let decodable : Decodable s (headerOf (thinned v frame)) (length (thinned v frame)) (length (x .buffer)) =
+      record {
+        range = i;
+        sound = thinned-sound frame sound (a .width);
+        core = rw (arrives-with, header);
+        due = rw (arrives-with, header) (due-of-borne (c .edition) (s .number));
+        space = rw (arrives-with, header) (omega (arith, k .sending .whole, k .room));
+      } in
       record {
         encodes = encodes;
         drops = rw sent drops;
-        decodes = rw (sent, a .is) (decode-of s (x .law′) (headerOf (thinned v frame)) (length (thinned v frame)) (length (x .buffer′)) (k .law′) decodable);
+        decodes = rw (sent, a .is) (decode-of s (x .law) (headerOf (thinned v frame)) (length (thinned v frame)) (length (x .buffer)) (k .law) decodable);
       }
-
-  pub after-in-range : InRange (encoderAfter s x)
-  unfolding encodedState encodedMemory
-  after-in-range = rw (encoder-is s x encodes) (record { memory = run-in-range (k .header .pair) (s .memory) (i .memory) (sentLevels x); cores = i .cores })
-
-  pub after-core : encoderAfter s x .core ≡ s .core
-  unfolding encodedState
-  after-core = rw (encoder-is s x encodes)
 
 pub stream-fits : (s : State) (core : ℕ) → InRange s → s .core ≡ core → (xs : List Transfer) → AllFit core xs → AllUnrefused s s xs
 stream-fits s core i e [] k = tt
 stream-fits s core i e (x ∷ xs) (k, ks) =
     let here : Fit (s .core) x = rw e k in
     let u = transfer-fits s x i here in
-    let same : decoderAfter s s x ≡ encoderAfter s x = transfer-tracks s x u in
-    (u, rw same (stream-fits (encoderAfter s x) core (after-in-range s x i here) (after-core s x i here ∙ e) xs ks))
+    let same : decoderAfter s (heard s x) ≡ encoderAfter s (x .sent) = transfer-tracks s x u in
+    (u, rw same (stream-fits (encoderAfter s (x .sent)) core (after-in-range s (x .sent) i (here .sending)) (after-core s (x .sent) i (here .sending) ∙ e) xs ks))
 
 reset-core : (core : ℕ) → resetOf core .core ≡ core
 unfolding resetOf

@@ -15,7 +15,7 @@ use Rattle.frame.proofs.Sizes.{frame-length}
 use Rattle.frame.proofs.Headers.{thinned-header}
 use Rattle.frame.proofs.Thinning.{thinned-same, thinned-thinned}
 use Rattle.frame.proofs.Kept.{thinned-sound, thinned-length}
-use Rattle.encode.specs.Levels.{encodedHeader, encodedFrame, encodedCodewords, encodedState}
+use Rattle.encode.specs.Levels.{dueHeader, encodedFrame, encodedCodewords, encodedState}
 use Rattle.encode.specs.Encode.{levelsOf, encodeReply, encodeOctets, encodeState, encodeOut}
 use Rattle.encode.specs.Inner.{Encodable}
 use Rattle.encode.proofs.Fitness.{encode-says}
@@ -23,34 +23,34 @@ use Rattle.encode.proofs.Expanding.{levels-length}
 use Rattle.drop_planes.specs.Drop.{dropReply, dropOctets, dropOut}
 use Rattle.drop_planes.specs.Inner.{Droppable}
 use Rattle.drop_planes.proofs.Fitness.{drop-says}
-use Rattle.tracking.specs.Stream.{Station, Transfer, written, encoderAfter, passedOn, arrived, Passed, finally}
+use Rattle.tracking.specs.Calls.{Sending, Station, sendReply, written, encoderAfter, passedOn, arrived, Passed, finally}
 
 -- the levels that the encoder's end makes of the samples
-abbrev pub sentLevels : Transfer → List ℕ
-sentLevels x = levelsOf (x .law) (x .samples)
+abbrev pub sentLevels : Sending → List ℕ
+sentLevels c = levelsOf (c .law) (c .samples)
 
-pub levels-sized : (x : Transfer) → length (sentLevels x) ≡ length (x .samples)
-levels-sized x = levels-length (x .law) (x .samples)
+pub levels-sized : (c : Sending) → length (sentLevels c) ≡ length (c .samples)
+levels-sized c = levels-length (c .law) (c .samples)
 
 -- a frame of levels that encode takes, whichever end they come from
-abbrev pub Sendable : State → ℕ → List ℕ → ℕ → Type 0
-Sendable s width levels room = Encodable s (encodedHeader (s .core) width (length levels)) (length levels) room
+abbrev pub Sendable : State → ℕ → ℕ → List ℕ → ℕ → Type 0
+Sendable s e width levels room = Encodable s (dueHeader s e width (length levels)) (length levels) room
 
-module _ (s : State) (x : Transfer) (fits : encodeReply s (x .law) (x .width) (x .samples) (x .buffer) ≡ 0) where
-  pub encodable : Sendable s (x .width) (sentLevels x) (length (x .buffer))
+module _ (s : State) (c : Sending) (fits : sendReply s c ≡ 0) where
+  pub encodable : Sendable s (c .edition) (c .width) (sentLevels c) (length (c .buffer))
   unfolding encodeReply
-  encodable = rw (levels-sized x) (encode-says s (x .law) (x .width) (length (x .samples)) (length (x .buffer)) fits .1)
+  encodable = rw (levels-sized c) (encode-says s (c .law) (c .edition) (c .width) (length (c .samples)) (length (c .buffer)) fits .1)
 
   -- the octets that encode reports are the encoded frame
-  pub written-is : written s x ≡ encodedFrame s (x .width) (sentLevels x)
+  pub written-is : written s c ≡ encodedFrame s (c .edition) (c .width) (sentLevels c)
   unfolding written encodeOctets encodeOut encodedFrame
   written-is =
-      let h = encodedHeader (s .core) (x .width) (length (sentLevels x)) in
-      let frame = encodedFrame s (x .width) (sentLevels x) in
-      rw (eq-eqb _ _ fits, ← levels-sized x)
-      (take-at frame (drop (dueLength h) (x .buffer)) (dueLength h) (frame-length h (encodedCodewords (s .core) (x .width) (s .memory) (sentLevels x))))
+      let h = dueHeader s (c .edition) (c .width) (length (sentLevels c)) in
+      let frame = encodedFrame s (c .edition) (c .width) (sentLevels c) in
+      rw (eq-eqb _ _ fits, ← levels-sized c)
+      (take-at frame (drop (dueLength h) (c .buffer)) (dueLength h) (frame-length h (encodedCodewords (s .core) (c .width) (s .memory) (sentLevels c))))
 
-  pub encoder-is : encoderAfter s x ≡ encodedState s (x .width) (sentLevels x)
+  pub encoder-is : encoderAfter s c ≡ encodedState s (c .edition) (c .width) (sentLevels c)
   unfolding encoderAfter encodeState
   encoder-is = rw (eq-eqb _ _ fits)
 

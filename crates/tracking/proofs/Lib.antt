@@ -5,4 +5,8 @@ pub mod Narrower
 pub mod Buffers
 pub mod Observer
 pub mod Fit
+pub mod Numbers
+pub mod Histories
+pub mod Losses
 pub mod Witness
+pub mod LossWitness

@@ -14,23 +14,23 @@ use Rattle.state.specs.declared.State.{State}
 use Rattle.engine.specs.Estimate.{Y}
 use Rattle.frame.specs.Planes.{frameOf}
 use Rattle.frame.specs.Read.{thinned}
-use Rattle.frame.proofs.Headers.{Fields}
+use Rattle.frame.proofs.Headers.{Fields, borne-again}
 use Rattle.frame.proofs.Thinning.{frame-thinned}
-use Rattle.encode.specs.Levels.{encodedHeader, encodedFrame, encodedMemory, encodedCodewords, encodedState}
+use Rattle.encode.specs.Levels.{dueHeader, encodedFrame, encodedMemory, encodedCodewords, encodedState}
 use Rattle.tracking.proofs.Runs.{codewords-thinned, memories-same}
 
-module _ (s : State) (v w : ℕ) (xs : List ℕ) (pv : Pair v (s .core)) (pw : Pair w (s .core)) (narrow : v ≤ w) where
+module _ (s : State) (e v w : ℕ) (xs : List ℕ) (pv : Pair v (s .core)) (pw : Pair w (s .core)) (narrow : v ≤ w) where
   pub narrower-codewords : encodedCodewords (s .core) v (s .memory) xs ≡ map (λ (I : ℕ). I >> (w - v)) (encodedCodewords (s .core) w (s .memory) xs)
   unfolding encodedCodewords
   narrower-codewords = codewords-thinned (s .core) v w pv pw narrow (s .memory) xs
 
-  pub narrower-frame : thinned v (encodedFrame s w xs) ≡ encodedFrame s v xs
+  pub narrower-frame : thinned v (encodedFrame s e w xs) ≡ encodedFrame s e v xs
   unfolding encodedFrame
   narrower-frame =
-      let fields : Fields (encodedHeader (s .core) w (length xs)) = record { width = omega (arith, pw .widths .high); core = omega (arith, pw .cores .high) } in
-      frame-thinned narrow fields (encodedCodewords (s .core) w (s .memory) xs) ∙ ap (frameOf (encodedHeader (s .core) v (length xs))) (sym narrower-codewords)
+      let fields : Fields (dueHeader s e w (length xs)) = record { width = omega (arith, pw .widths .high); core = omega (arith, pw .cores .high); number = borne-again e (s .number) } in
+      frame-thinned narrow fields (encodedCodewords (s .core) w (s .memory) xs) ∙ ap (frameOf (dueHeader s e v (length xs))) (sym narrower-codewords)
 
-  pub narrower-state : encodedState s v xs ≡ encodedState s w xs
+  pub narrower-state : encodedState s e v xs ≡ encodedState s e w xs
   unfolding encodedState encodedMemory
   narrower-state = rw (memories-same (s .core) v w pv pw narrow (s .memory) xs)
 

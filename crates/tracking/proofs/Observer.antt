@@ -13,7 +13,7 @@ use Rattle.state.specs.Moved.{movedOn}
 use Rattle.sample.specs.Decode.{decoderNext}
 use Rattle.sample.proofs.Cores.{core-of-thinned}
 use Rattle.sample.proofs.Tracks.{decode-by-core}
-use Rattle.frame.specs.Header.{headerOf}
+use Rattle.frame.specs.Header.{headerOf, numberAfter}
 use Rattle.frame.specs.Read.{received, thinned}
 use Rattle.frame.specs.Sound.{Sound}
 use Rattle.frame.proofs.Headers.{thinned-header}
@@ -35,7 +35,7 @@ by-core core x m narrow (c ∷ cs) =
 
 -- the state that decoding a frame ends in
 abbrev after : State → List ℕ → State
-after s frame = decodedState s (headerOf frame .width) (received frame)
+after s frame = decodedState s (headerOf frame) (received frame)
 
 -- decoding a frame, and decoding its core planes alone, end in one state
 pub decoded-by-core-planes : (s : State) (frame : List ℕ) → Sound (headerOf frame) (length frame) → headerOf frame .core ≡ s .core
@@ -45,7 +45,7 @@ decoded-by-core-planes s frame sound core =
     let h = headerOf frame in
     let narrow = sound .header .pair .widths .low in
     let small : h .core < 8 = omega (arith, sound .header .pair .cores .high) in
-    rw (received-thinned frame narrow, thinned-header small frame, core) (ap (movedOn s) (by-core (s .core) (h .width) (s .memory) (rw core at narrow) (received frame)))
+    rw (received-thinned frame narrow, thinned-header small frame, core) (ap (λ (m : Memory). movedOn s m (numberAfter (h .edition) (s .number))) (by-core (s .core) (h .width) (s .memory) (rw core at narrow) (received frame)))
 
 -- two frames with the same core planes
 pub same-core-planes : (s : State) (f f′ : List ℕ) → Sound (headerOf f) (length f) → Sound (headerOf f′) (length f′)
@@ -57,10 +57,10 @@ same-core-planes s f f′ sound sound′ core core′ same =
 observers-step : (s : State) (x : TwoFrames) → Agree s s x → one s s x ≡ other s s x
 unfolding decodeState decodeReply
 observers-step s x a =
-    let p = decode-says s (x .law) (headerOf (x .frame)) (length (x .frame)) (length (x .buffer)) (a .decodes) .1 in
-    let q = decode-says s (x .law′) (headerOf (x .frame′)) (length (x .frame′)) (length (x .buffer′)) (a .decodes′) .1 in
+    let p = decode-says s (x .heard .law) (headerOf (x .heard .frame)) (length (x .heard .frame)) (length (x .heard .buffer)) (a .decodes) .1 in
+    let q = decode-says s (x .heard′ .law) (headerOf (x .heard′ .frame)) (length (x .heard′ .frame)) (length (x .heard′ .buffer)) (a .decodes′) .1 in
     rw (eq-eqb _ _ (a .decodes), eq-eqb _ _ (a .decodes′))
-    (same-core-planes s (x .frame) (x .frame′) (p .sound) (q .sound) (p .core) (q .core) (a .core-planes))
+    (same-core-planes s (x .heard .frame) (x .heard′ .frame) (p .sound) (q .sound) (p .core) (q .core) (a .core-planes))
 
 -- two streams that agree on the core planes have equal states after every frame
 pub observers-agree : (s : State) (xs : List TwoFrames) → AllAgree s s xs → EqualStates s s xs

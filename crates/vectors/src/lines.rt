@@ -47,7 +47,7 @@ fn summed(line: Line, kind: Kind, core: u8, t: Track) -> Line {
 // An I-input and the held codeword have no encoder beside the decoder
 fn do_ends_differ(kind: Kind, core: u8, t: Track) -> bool {
     let memory = t.encoder;
-    let encoder = moved_on(reset(core), memory);
+    let encoder = moved_on(reset(core), memory, 0);
     match kind {
         Kind::Normal | Kind::Overload | Kind::Jump => !same_state(encoder, decoder_of(core, t)),
         Kind::Codewords | Kind::Held => false,
@@ -56,7 +56,7 @@ fn do_ends_differ(kind: Kind, core: u8, t: Track) -> bool {
 
 fn decoder_of(core: u8, t: Track) -> State {
     let memory = t.decoder;
-    moved_on(reset(core), memory)
+    moved_on(reset(core), memory, 0)
 }
 
 pub fn write_sample(note: Note, core: u8, codeword: u8, p: Played) {
@@ -83,5 +83,5 @@ fn answered(line: Line, core: u8, codeword: u8, p: Played) -> Line {
     line.next(codeword as u64)
         .next(byte)
         .next(moved)
-        .next(of_state(moved_on(reset(core), memory)) as u64)
+        .next(of_state(moved_on(reset(core), memory, 0)) as u64)
 }

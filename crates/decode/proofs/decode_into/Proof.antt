@@ -86,14 +86,14 @@ loop-again c =
     playing-more _ _ _ _ _ _ (here .before .loop .inv) (within here) (pair at) short (c .before .before .decode-byte .ensures ∙ rw (codeword-is (c .before .before .before)))
 
 same-length : tie.Need-same-length Inv-loop μ-loop
-same-length c = c .before .before .loop .inv .filled .size
+same-length c = c .before .before .before .loop .inv .filled .size
 
 returns : tie.Need-returns Inv-loop μ-loop
 returns c =
-    let at = c .before .before .before .before .before .before .before .before in
-    let all = rw (c .before .before .before .before .before .sample-count .ensures) at (c .before .loop-test .left) in
-    rw (c .moved-on .ensures)
-    (playing-done _ _ _ _ _ (c .before .before .loop .inv) (rw (read-length (at .args .h .width) (at .args .h .groups) (now (at .args .planes))) all))
+    let at = c .before .before .before .before .before .before .before .before .before in
+    let all = rw (c .before .before .before .before .before .before .sample-count .ensures) at (c .before .before .loop-test .left) in
+    rw (c .moved-on .ensures, c .before .number-after .ensures)
+    (playing-done _ _ _ _ _ (c .before .before .before .loop .inv) (rw (read-length (at .args .h .width) (at .args .h .groups) (now (at .args .planes))) all))
 
 pub decode-into-spec : {M : Type 1} → statement M
 decode-into-spec =
@@ -112,6 +112,7 @@ decode-into-spec =
     add-k
     loop-less
     loop-again
+    (search needs)
     (search needs)
     same-length
     returns)

@@ -7,6 +7,7 @@ use borrow.Author.Tests.{lt-ltb, le-ltb, eq-eqb, ne-eqb, not-true, not-false}
 use Rattle.words.specs.First.{first}
 use Rattle.words.proofs.First.{NoneApplies, first-says}
 use Rattle.state.specs.Range.{inRange}
+use Rattle.frame.specs.Header.{isDue}
 use Rattle.frame.specs.Rows.{frameRows}
 use Rattle.replies.specs.Reply.{isLaw}
 use Rattle.replies.proofs.Answers.{is-refusal, is-success}
@@ -51,13 +52,25 @@ returns-4 : tie.Need-returns-4
 unfolding first
 returns-4 c = sym (left (c .before .before .before) _ ∙ rw (ne-eqb _ _ (c .if4 .taken)))
 
+-- the number is due, or the edition bears none
+timely : (c : tie.Else5) → isDue (c .before .before .before .before .before .before .before .before .before .before .before .before .args .h) (c .before .before .before .before .before .before .before .before .before .before .before .before .args .s .number) ≡ true
+timely c = sym (c .before .is-due .ensures) ∙ not-false _ (c .if5 .left)
+
 returns-5 : tie.Need-returns-5
 unfolding first
-returns-5 c = sym (left (c .before .before .before .before .before) _ ∙ rw (eq-eqb _ _ (c .before .before .if4 .left), ← c .before .sample-count .ensures, lt-ltb _ _ (c .if5 .taken)))
+returns-5 c = sym (left (c .before .before .before .before .before) _ ∙ rw (eq-eqb _ _ (c .before .before .if4 .left), sym (c .before .is-due .ensures) ∙ not-true _ (c .if5 .taken)))
 
 returns-6 : tie.Need-returns-6
 unfolding first
-returns-6 c = sym (left (c .before .before .before .before .before) _ ∙ rw (eq-eqb _ _ (c .before .before .if4 .left), ← c .before .sample-count .ensures, le-ltb _ _ (c .if5 .left)))
+returns-6 c =
+    let at = c .before .before in
+    sym (left (at .before .before .before .before .before) _ ∙ rw (eq-eqb _ _ (at .before .before .if4 .left), timely at, ← c .before .sample-count .ensures, lt-ltb _ _ (c .if6 .taken)))
+
+returns-7 : tie.Need-returns-7
+unfolding first
+returns-7 c =
+    let at = c .before .before in
+    sym (left (at .before .before .before .before .before) _ ∙ rw (eq-eqb _ _ (at .before .before .if4 .left), timely at, ← c .before .sample-count .ensures, le-ltb _ _ (c .if6 .left)))
 
 pub decode-reply-spec : {M : Type 1} → statement M
 decode-reply-spec =
@@ -73,4 +86,6 @@ decode-reply-spec =
     returns-4
     (search needs)
     returns-5
-    returns-6)
+    (search needs)
+    returns-6
+    returns-7)

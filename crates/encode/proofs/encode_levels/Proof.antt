@@ -36,8 +36,8 @@ write-frame-requires c κs =
 returns : tie.Need-returns
 unfolding encodedState
 returns c =
-    let coded = c .before .before .before .before .before .before .before .encode-all .ensures in
-    record { state = rw (c .moved-on .ensures, coded .memory); out = c .before .before .before .write-frame .ensures ∙ rw (codewords-taken _ _ _ _ coded) }
+    let coded = c .before .before .before .before .before .before .before .before .encode-all .ensures in
+    record { state = rw (c .moved-on .ensures, coded .memory, c .before .number-after .ensures); out = c .before .before .before .before .write-frame .ensures ∙ rw (codewords-taken _ _ _ _ coded) }
 
 pub encode-levels-spec : {M : Type 1} → statement M
 encode-levels-spec =
@@ -49,6 +49,7 @@ encode-levels-spec =
     (λ c. omega (arith, room (c .before .before), c .before .encode-all .kept))
     slice-aggregate-write-frame
     write-frame-requires
+    (search needs)
     (search needs)
     (search needs)
     returns)

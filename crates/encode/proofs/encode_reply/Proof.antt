@@ -7,10 +7,10 @@ use borrow.Author.Tests.{lt-ltb, le-ltb, not-true, not-false}
 use Rattle.words.specs.First.{first}
 use Rattle.quantizer.specs.Pair.{isPair}
 use Rattle.state.specs.Range.{inRange}
-use Rattle.frame.specs.Header.{edition, mostGroups, dueLength, isCount}
+use Rattle.frame.specs.Header.{mostGroups, isEdition, dueLength, isCount}
 use Rattle.frame.proofs.Sounds.{count-says}
 use Rattle.replies.specs.Reply.{isLaw}
-use Rattle.encode.specs.Levels.{encodedHeader}
+use Rattle.encode.specs.Levels.{dueHeader}
 use Rattle.encode.specs.Encode.{encodeNumber}
 use Rattle.encode.proofs.encode_reply.Statement.{statement}
 use Rattle.encode.proofs.encode_reply.Tie as tie
@@ -22,18 +22,21 @@ ranged c = sym (c .before .in-range .ensures) ∙ not-false _ (c .if1 .left)
 lawful : (c : tie.Else2) → isLaw (c .before .before .before .before .args .law) ≡ true
 lawful c = sym (c .before .is-law .ensures) ∙ not-false _ (c .if2 .left)
 
-paired : (c : tie.Else3) → isPair (c .before .before .before .before .before .before .args .width) (c .before .before .before .before .before .before .args .s .core) ≡ true
-paired c = sym (c .before .is-pair .ensures) ∙ not-false _ (c .if3 .left)
+known : (c : tie.Else3) → isEdition (c .before .before .before .before .before .before .args .edition) ≡ true
+known c = sym (c .before .is-edition .ensures) ∙ not-false _ (c .if3 .left)
 
-counted : (c : tie.Else4) → isCount edition (c .before .before .before .before .before .before .before .before .args .n) ≡ true
-counted c = sym (c .before .is-count .ensures) ∙ not-false _ (c .if4 .left)
+paired : (c : tie.Else4) → isPair (c .before .before .before .before .before .before .before .before .args .width) (c .before .before .before .before .before .before .before .before .args .s .core) ≡ true
+paired c = sym (c .before .is-pair .ensures) ∙ not-false _ (c .if4 .left)
 
-due : (c : tie.After-due-length) → c .due-length .result ≡ dueLength (encodedHeader (c .before .before .before .before .before .before .before .before .before .before .args .s .core) (c .before .before .before .before .before .before .before .before .before .before .args .width) (c .before .before .before .before .before .before .before .before .before .before .args .n))
-due c = c .due-length .ensures ∙ rw (c .before .encoded-header .ensures)
+counted : (c : tie.Else5) → isCount (c .before .before .before .before .before .before .before .before .before .before .args .edition) (c .before .before .before .before .before .before .before .before .before .before .args .n) ≡ true
+counted c = sym (c .before .is-count .ensures) ∙ not-false _ (c .if5 .left)
 
-encoded-header-requires : tie.Need-encoded-header-requires
+due : (c : tie.After-due-length) → c .due-length .result ≡ dueLength (dueHeader (c .before .before .before .before .before .before .before .before .before .before .before .before .args .s) (c .before .before .before .before .before .before .before .before .before .before .before .before .args .edition) (c .before .before .before .before .before .before .before .before .before .before .before .before .args .width) (c .before .before .before .before .before .before .before .before .before .before .before .before .args .n))
+due c = c .due-length .ensures ∙ rw (c .before .due-header .ensures)
+
+due-header-requires : tie.Need-due-header-requires
 unfolding mostGroups
-encoded-header-requires c κs = omega (arith, count-says edition (c .before .before .before .before .before .before .before .before .args .n) (counted c) .groups .high)
+due-header-requires c κs = omega (arith, count-says (c .before .before .before .before .before .before .before .before .before .before .args .edition) (c .before .before .before .before .before .before .before .before .before .before .args .n) (counted c) .groups .high)
 
 returns : tie.Need-returns
 unfolding encodeNumber first
@@ -47,25 +50,31 @@ returns-3 : tie.Need-returns-3
 unfolding encodeNumber first
 returns-3 c =
     let at = c .before .before in
-    rw (ranged (at .before .before), lawful at, sym (c .before .is-pair .ensures) ∙ not-true _ (c .if3 .taken))
+    rw (ranged (at .before .before), lawful at, sym (c .before .is-edition .ensures) ∙ not-true _ (c .if3 .taken))
 
 returns-4 : tie.Need-returns-4
 unfolding encodeNumber first
 returns-4 c =
     let at = c .before .before in
-    rw (ranged (at .before .before .before .before), lawful (at .before .before), paired at, sym (c .before .is-count .ensures) ∙ not-true _ (c .if4 .taken))
+    rw (ranged (at .before .before .before .before), lawful (at .before .before), known at, sym (c .before .is-pair .ensures) ∙ not-true _ (c .if4 .taken))
 
 returns-5 : tie.Need-returns-5
 unfolding encodeNumber first
 returns-5 c =
-    let at = c .before .before .before in
-    rw (ranged (at .before .before .before .before .before .before), lawful (at .before .before .before .before), paired (at .before .before), counted at, ← due (c .before), lt-ltb _ _ (c .if5 .taken))
+    let at = c .before .before in
+    rw (ranged (at .before .before .before .before .before .before), lawful (at .before .before .before .before), known (at .before .before), paired at, sym (c .before .is-count .ensures) ∙ not-true _ (c .if5 .taken))
 
 returns-6 : tie.Need-returns-6
 unfolding encodeNumber first
 returns-6 c =
     let at = c .before .before .before in
-    rw (ranged (at .before .before .before .before .before .before), lawful (at .before .before .before .before), paired (at .before .before), counted at, ← due (c .before), le-ltb _ _ (c .if5 .left))
+    rw (ranged (at .before .before .before .before .before .before .before .before), lawful (at .before .before .before .before .before .before), known (at .before .before .before .before), paired (at .before .before), counted at, ← due (c .before), lt-ltb _ _ (c .if6 .taken))
+
+returns-7 : tie.Need-returns-7
+unfolding encodeNumber first
+returns-7 c =
+    let at = c .before .before .before in
+    rw (ranged (at .before .before .before .before .before .before .before .before), lawful (at .before .before .before .before .before .before), known (at .before .before .before .before), paired (at .before .before), counted at, ← due (c .before), le-ltb _ _ (c .if6 .left))
 
 pub encode-reply-spec : {M : Type 1} → statement M
 encode-reply-spec =
@@ -79,7 +88,9 @@ encode-reply-spec =
     returns-3
     (search needs)
     returns-4
-    encoded-header-requires
     (search needs)
     returns-5
-    returns-6)
+    due-header-requires
+    (search needs)
+    returns-6
+    returns-7)

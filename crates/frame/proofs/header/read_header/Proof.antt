@@ -9,4 +9,4 @@ unfolding headerOf
 returns c = cc
 
 pub read-header-spec : {M : Type 1} → statement M
-read-header-spec = tie.close (tie.spec (search needs) (search needs) returns)
+read-header-spec = tie.close (tie.spec (search needs) (search needs) (search needs) (search needs) returns)

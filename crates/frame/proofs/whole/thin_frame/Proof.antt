@@ -1,4 +1,4 @@
--- `frame::whole::thin_frame` meets its contract: the first planes are copied, and the header's first octet is stored anew.
+-- `frame::whole::thin_frame` meets its contract: the first planes are copied, and the header is written anew.
 use borrow.Author.Needs.{needs}
 use mathlib.Core.Path.{_≡_, sym, _∙_}
 use Prim.Native.Nat.{_*_, _≤_}
@@ -8,8 +8,8 @@ use lib.ListN.{length}
 use lib.Seq.{length-take-le}
 use denote.Ref.{now}
 use Rattle.frame.specs.Header.{headerOf, dueLength}
-use Rattle.frame.specs.Read.{narrowed, thinned}
-use Rattle.frame.proofs.Headers.{fields-there, header-renewed, copied}
+use Rattle.frame.specs.Read.{body, narrowed, thinned}
+use Rattle.frame.proofs.Headers.{header-renewed, copied}
 use Rattle.frame.proofs.Kept.{narrowed-sound}
 use Rattle.frame.proofs.whole.thin_frame.Statement.{statement}
 use Rattle.frame.proofs.whole.thin_frame.Tie as tie
@@ -33,25 +33,22 @@ slice-aggregate-copy c = sym (length-take-le _ _ (long (c .before)))
 copy-requires : tie.Need-copy-requires
 copy-requires c κs = rw (length-take-le _ _ (long (c .before .before))) (room (c .before .before))
 
-head-requires : tie.Need-head-requires
-head-requires c κs =
-    let at = c .before .before .before .before .before .before .before .before .before in
-    rw (c .before .before .before .before .before .before .narrow .ensures) (narrowed-sound (at .pre .1 .header) (at .pre .2))
-
-slice-write-out : tie.Need-slice-write-out
-slice-write-out c =
+write-header-requires : tie.Need-write-header-requires
+write-header-requires c κs =
     let at = c .before .before .before .before .before .before .before .before .before .before in
-    omega (arith, c .before .before .before .copy .kept .1 .0, at .pre .3, fields-there (at .args .h .edition))
+    rw (c .before .before .before .before .before .before .before .narrow .ensures)
+    (narrowed-sound (at .pre .1 .header) (at .pre .2), omega (arith, at .pre .3, c .before .before .before .copy .kept .1 .0))
 
 returns : tie.Need-returns
-unfolding thinned
+unfolding thinned body
 returns c =
-    let at = c .before .before .before .before .before .before .before .before .before .before in
-    let called = c .before .before .before .before .before .before in
+    let at = c .before .before .before .before .before .before .before .before .before .before .before .before .before in
+    let called = c .before .before .before .before .before .before .before .before .before in
     let f = now (at .args .frame) in
     let d = now (at .args .out) in
-    let done = copied (called .due-length .result) f d (long called) (c .before .before .before .copy .ensures .1) in
-    rw (done, c .head .ensures, c .before .before .before .before .before .before .before .narrow .ensures, is-length called, at .pre .0) (header-renewed (at .args .w) (at .args .w * headerOf f .groups) f _ (rw (← at .pre .0) (omega (arith, at .pre .1 .whole))))
+    let done = copied (called .due-length .result) f d (long called) (c .before .before .before .before .before .before .copy .ensures .1) in
+    rw (c .before .before .write-header .ensures, done, called .before .narrow .ensures, is-length called, at .pre .0)
+    (header-renewed (narrowed (at .args .w) (headerOf f)) (at .args .w * headerOf f .groups) f _ (rw (is-length called, at .pre .0) at (long called)))
 
 pub thin-frame-spec : {M : Type 1} → statement M
 thin-frame-spec =
@@ -61,7 +58,6 @@ thin-frame-spec =
     (search needs)
     slice-aggregate-copy
     copy-requires
-    head-requires
-    slice-write-out
+    write-header-requires
     (λ c. search needs)
     returns)

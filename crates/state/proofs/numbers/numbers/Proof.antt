@@ -9,7 +9,7 @@ use Rattle.state.proofs.numbers.numbers.Tie as tie
 returns : tie.Need-returns
 unfolding numbersOf
 returns c =
-    let signals = c .before in
+    let signals = c .before .before in
     let differences = signals .before .before .before .before .before in
     let zeros = differences .before .before .before .before .before .before in
     let adaptation = zeros .before .before .before .before .before .before in
@@ -39,7 +39,8 @@ returns c =
     signals .before .before .of-word21 .ensures i ∷
     signals .before .of-word22 .ensures i ∷
     signals .of-word23 .ensures i ∷
-    c .of-octet .ensures i ∷
+    c .before .of-octet .ensures i ∷
+    c .of-octet2 .ensures i ∷
     []
 
 pub numbers-spec : {M : Type 1} → statement M
@@ -50,4 +51,4 @@ numbers-spec =
     (search needs) (search needs) (search needs) (search needs) (search needs) (search needs)
     (search needs) (search needs) (search needs) (search needs) (search needs) (search needs)
     (search needs) (search needs) (search needs) (search needs) (search needs) (search needs)
-    (search needs) (search needs) (search needs) (search needs) (search needs) (search needs) returns)
+    (search needs) (search needs) (search needs) (search needs) (search needs) (search needs) (search needs) returns)

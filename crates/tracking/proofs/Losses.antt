@@ -1,0 +1,166 @@
+-- What becomes of a lost frame. Behind it every edition 2 frame of the stream is refused with 10, up to the 255th, and leaves state and buffers
+-- alone; an edition 1 frame is decoded as ever; and a frame whose number is the due one is taken for it, whatever its place.
+use mathlib.Core.Bool.{true, false}
+use mathlib.Core.List.{List, [], _∷_}
+use mathlib.Core.Path.{_≡_, refl, sym, ap, _∙_}
+use Prim.Native.Nat.{ℕ, zero, suc, _%_, _^_, _≤_, _<_}
+use native.Mathlib.Omega.{arith}
+use lib.Dec.{eqb}
+use lib.ListN.{length, getD}
+use borrow.Author.Tests.{eqb-true, eq-eqb, ne-eqb, le-leb}
+use Rattle.words.specs.First.{first}
+use Rattle.words.specs.Within.{Within}
+use Rattle.words.proofs.Pick.{by-pick, cases}
+use Rattle.lists.specs.Run.{last}
+use Rattle.quantizer.specs.Pair.{Pair}
+use Rattle.state.specs.declared.memory.Memory.{Memory}
+use Rattle.state.specs.declared.State.{State}
+use Rattle.state.specs.Reset.{resetOf}
+use Rattle.state.specs.InRange.{MemoryInRange, InRange}
+use Rattle.state.proofs.Ranges.{range-of, reset-in-range}
+use Rattle.sample.specs.Decode.{decoderNext}
+use Rattle.sample.proofs.Tracks.{decode-in-range}
+use Rattle.frame.specs.Header.{headerOf, isNumbered, sampleCount, isDue}
+use Rattle.frame.specs.Read.{body, received}
+use Rattle.frame.specs.Sound.{Sound}
+use Rattle.frame.proofs.Codewords.{read-length, read-short}
+use Rattle.frame.proofs.Sounds.{sound-none}
+use Rattle.decode.specs.Codewords.{decodedMemory, decodedState}
+use Rattle.decode.specs.Decode.{decodeReply, decodeOctets, decodeMoved, decodeState, decodeOut}
+use Rattle.decode.specs.Inner.{Decodable}
+use Rattle.decode.proofs.Fitness.{decode-says, decode-of, decode-behind}
+use Rattle.tracking.specs.Calls.{Sending, Hearing, hearReply, decoderAfter}
+use Rattle.tracking.specs.History.{numberedFrames, isNumberedFrame, accepts, accepted, afterAll, Brings, Behind, AllBehind, Refused, AllRefused}
+use Rattle.tracking.proofs.Numbers.{hearer-core, hearer-number, hearer-counts}
+use Rattle.tracking.proofs.Histories.{Bearing, bearing-same, brought-bears}
+
+-- a decoder's state stays in range, whatever it is given
+run-in-range : {core w : ℕ} → Pair w core → (m : Memory) → MemoryInRange m → (cws : List ℕ) → ((k : ℕ) → k < length cws → getD cws k 0 < 2 ^ w)
+    → MemoryInRange (last (decoderNext core w) m cws)
+unfolding last
+run-in-range p m i [] short = i
+run-in-range {core} {w} p m i (c ∷ cws) short =
+    run-in-range p (decoderNext core w m c) (decode-in-range m p i c (short 0 (omega arith))) cws (λ k h. short (suc k) (omega arith))
+
+pub hearer-in-range : (t : State) (d : Hearing) → InRange t → InRange (decoderAfter t d)
+unfolding decodeState decodeReply decodedState decodedMemory received
+hearer-in-range t d i =
+    let h = headerOf (d .frame) in
+    let size = read-length (h .width) (h .groups) (body (d .frame)) in
+    by-pick InRange (eqb (hearReply t d) 0) (decodedState t h (received (d .frame))) t
+    (λ done.
+      let k = decode-says t (d .law) h (length (d .frame)) (length (d .buffer)) (eqb-true (hearReply t d) 0 done) .1 in
+      record {
+        memory = run-in-range (rw (k .core) at (k .sound .header .pair)) (t .memory) (i .memory) (received (d .frame)) (λ j there. read-short (h .width) (h .groups) (body (d .frame)) j (rw size at there));
+        cores = i .cores;
+      })
+    (λ refused. i)
+
+-- after any frames whatever: the state is in range, and its core is the one it began with
+pub afterwards-in-range : (t : State) → InRange t → (ds : List Hearing) → InRange (afterAll t ds)
+unfolding afterAll last
+afterwards-in-range t i [] = i
+afterwards-in-range t i (d ∷ ds) = afterwards-in-range (decoderAfter t d) (hearer-in-range t d i) ds
+
+pub afterwards-core : (t : State) (ds : List Hearing) → afterAll t ds .core ≡ t .core
+unfolding afterAll last
+afterwards-core t [] = refl
+afterwards-core t (d ∷ ds) = afterwards-core (decoderAfter t d) ds ∙ hearer-core t d
+
+-- a sound frame of the state's core, at a state in range, with a law that there is
+pub record Heard (t : State) (d : Hearing) : Type 0 where
+  pub range : InRange t
+  pub law : d .law ≤ 1
+  pub sound : Sound (headerOf (d .frame)) (length (d .frame))
+  pub core : headerOf (d .frame) .core ≡ t .core
+
+module _ (t : State) (d : Hearing) (k : Heard t d) where
+  -- where its number is not due it is refused with 10
+  refused-number : isDue (headerOf (d .frame)) (t .number) ≡ false → hearReply t d ≡ 10
+  unfolding decodeReply first
+  refused-number late =
+      decode-behind t (d .law) (headerOf (d .frame)) (length (d .frame)) (length (d .buffer)) (range-of t (k .range)) (le-leb (d .law) 1 (k .law)) (sound-none (headerOf (d .frame)) (length (d .frame)) (k .sound))
+      ∙ rw (eq-eqb _ _ (k .core), late)
+
+  -- where it is due, or there is none, it is decoded
+  pub due-decoded : isDue (headerOf (d .frame)) (t .number) ≡ true → sampleCount (headerOf (d .frame)) ≤ length (d .buffer) → hearReply t d ≡ 0
+  unfolding decodeReply
+  due-decoded due room =
+      decode-of t (d .law) (headerOf (d .frame)) (length (d .frame)) (length (d .buffer)) (k .law)
+      (record { range = k .range; sound = k .sound; core = k .core; due = due; space = room })
+
+  pub unnumbered-decoded : isNumberedFrame d ≡ false → sampleCount (headerOf (d .frame)) ≤ length (d .buffer) → hearReply t d ≡ 0
+  unnumbered-decoded plain room = due-decoded (rw plain) room
+
+-- a refusal with 10 leaves all as it was
+refused : (t : State) (d : Hearing) → hearReply t d ≡ 10 → Refused t d
+unfolding decodeOctets decodeMoved decodeState decodeOut
+refused t d number = record { number = number; octets = rw number; moved = rw number; state = rw number; out = rw number }
+
+module _ {core n : ℕ} (t : State) (d : Hearing) (i : InRange t) (law : d .law ≤ 1) (b : Bearing core n (d .frame)) (e : core ≡ t .core) where
+  hears : Heard t d
+  hears = record { range = i; law = law; sound = b .sound; core = b .core-is ∙ e }
+
+  pub other-number-refused : (n ≡ t .number → ⊥) → Refused t d
+  other-number-refused other =
+      refused t d (refused-number t d hears (rw (b .numbered, ne-eqb (headerOf (d .frame) .number) (t .number) (λ same. other (sym (b .number-is) ∙ same)))))
+
+  pub due-number-taken : n ≡ t .number → sampleCount (headerOf (d .frame)) ≤ length (d .buffer) → hearReply t d ≡ 0
+  due-number-taken same room = due-decoded t d hears (rw (b .numbered, eq-eqb (headerOf (d .frame) .number) (t .number) (b .number-is ∙ same))) room
+
+reset-core : (core : ℕ) → resetOf core .core ≡ core
+unfolding resetOf
+reset-core core = refl
+
+reset-number : (core : ℕ) → resetOf core .number ≡ 0
+unfolding resetOf
+reset-number core = refl
+
+-- both ends reset to one core, and the encoder has made any calls
+module _ (core : ℕ) (within : Within 2 4 core) (cs : List Sending) where
+  abbrev start : State
+  start = resetOf core
+
+  abbrev frames : List (List ℕ)
+  frames = numberedFrames start cs
+
+  bears : {place : ℕ} {d : Hearing} → Brings frames place d → Bearing core (place % 256) (d .frame)
+  bears {place} brings =
+      let from = reset-number core in
+      bearing-same (reset-core core) (omega arith) (brought-bears start (omega arith) cs {place = place} brings)
+
+  -- a frame of this stream at another place than the due one, modulo 256, is refused with 10
+  pub other-place-refused : (t : State) → InRange t → t .core ≡ core → (place : ℕ) (d : Hearing) → d .law ≤ 1 → Brings frames place d
+      → (place % 256 ≡ t .number → ⊥) → Refused t d
+  other-place-refused t i e place d law brings other = other-number-refused t d i law (bears brings) (sym e) other
+
+  -- and one at the due place, or any number of times 256 places off, is taken for the due one
+  pub taken-for-due : (ds : List Hearing) (place : ℕ) (d : Hearing) → d .law ≤ 1 → Brings frames place d → sampleCount (headerOf (d .frame)) ≤ length (d .buffer)
+      → place % 256 ≡ accepted start ds % 256 → hearReply (afterAll start ds) d ≡ 0
+  taken-for-due ds place d law brings room same =
+      let from = reset-number core in
+      let counted = hearer-counts start (omega arith) ds in
+      due-number-taken (afterAll start ds) d (afterwards-in-range start (reset-in-range core within) ds) law (bears brings) (sym (afterwards-core start ds ∙ reset-core core)) (omega arith) room
+
+  module _ (lost : ℕ) where
+    -- from any state whose number is the lost frame's
+    losing : (t : State) → InRange t → t .core ≡ core → t .number ≡ lost % 256 → (ds : List Hearing) → AllBehind frames lost ds → AllRefused t ds
+    losing t i e due [] b = tt
+    losing t i e due (d ∷ ds) (b, bs) =
+        let late : isNumberedFrame d ≡ true → Refused t d =
+        λ numbered.
+        let k = b numbered in
+        let after = k .after in
+        let near = k .near in
+        other-place-refused t i e (k .place) d (k .law) (k .brings) (λ same. omega arith) in
+        let stays : decoderAfter t d .number ≡ t .number =
+        cases (isNumberedFrame d) (λ numbered. ap (λ (u : State). u .number) (late numbered .state)) (λ plain. hearer-number t d ∙ rw plain) in
+        (late, losing (decoderAfter t d) (hearer-in-range t d i) (hearer-core t d ∙ e) (stays ∙ due) ds bs)
+
+    -- the decoder has accepted as many edition 2 frames as there are before the lost one, whatever else it was given: then every edition 2 frame
+    -- behind the lost one, up to the 255th, is refused with 10 and leaves state and buffer alone
+    pub after-a-loss : (ds : List Hearing) → accepted start ds ≡ lost → (more : List Hearing) → AllBehind frames lost more → AllRefused (afterAll start ds) more
+    after-a-loss ds just more b =
+        let from = reset-number core in
+        let counted = hearer-counts start (omega arith) ds in
+        losing (afterAll start ds) (afterwards-in-range start (reset-in-range core within) ds) (afterwards-core start ds ∙ reset-core core) (omega arith) more b
