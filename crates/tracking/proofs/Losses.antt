@@ -49,11 +49,11 @@ hearer-in-range t d i =
     let size = read-length (h .width) (h .groups) (body (d .frame)) in
     by-pick InRange (eqb (hearReply t d) 0) (decodedState t h (received (d .frame))) t
     (λ done.
-      let k = decode-says t (d .law) h (length (d .frame)) (length (d .buffer)) (eqb-true (hearReply t d) 0 done) .1 in
-      record {
-        memory = run-in-range (rw (k .core) at (k .sound .header .pair)) (t .memory) (i .memory) (received (d .frame)) (λ j there. read-short (h .width) (h .groups) (body (d .frame)) j (rw size at there));
-        cores = i .cores;
-      })
+    let k = decode-says t (d .law) h (length (d .frame)) (length (d .buffer)) (eqb-true (hearReply t d) 0 done) .1 in
+    record {
+      memory = run-in-range (rw (k .core) at (k .sound .header .pair)) (t .memory) (i .memory) (received (d .frame)) (λ j there. read-short (h .width) (h .groups) (body (d .frame)) j (rw size at there));
+      cores = i .cores;
+    })
     (λ refused. i)
 
 -- after any frames whatever: the state is in range, and its core is the one it began with
