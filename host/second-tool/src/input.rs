@@ -24,9 +24,11 @@ pub fn frame(input: &mut Source, place: Place) -> Result<Vec<u8>, Stop> {
 
 pub fn header(first: u8, groups: u8) -> Header {
     Header {
+        edition: first >> 6,
         width: first >> 3 & 7,
         core: first & 7,
         groups: usize::from(groups),
+        number: None,
     }
 }
 

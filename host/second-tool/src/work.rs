@@ -9,7 +9,7 @@ use filter::files::Source;
 use filter::line::Line;
 use filter::stop::Stop;
 use second::calls::{self, reset};
-use second::frame::{GROUP, MOST_GROUPS};
+use second::frame::{GROUP, MOST_GROUPS, PLAIN};
 use second::g711::Law;
 use second::replies::DONE;
 use second::state::State;
@@ -105,7 +105,7 @@ fn encode(plan: &Plan, state: &mut State, piece: &[u8], place: Place) -> Result<
     let (samples, note) = filled(plan.law, piece, place);
     let mut out = [0; MOST_SAMPLES];
     let law = plan.law.number();
-    let answer = calls::encode(*state, law, plan.width, &samples, &mut out);
+    let answer = calls::encode(*state, law, PLAIN, plan.width, &samples, &mut out);
     let octets = done(answer.number, place, &out[..answer.octets])?;
     *state = answer.state;
     Ok(Made {

@@ -28,7 +28,7 @@ fn send(random: &mut Random, law: u8, core: u8, ends: (State, State)) -> (State,
     let samples = 8 * (1 + random.below(40) as usize);
     let mut frame = [0; 202];
     let input = pcm(random, law, samples);
-    let sent = encode(ends.0, law, width, &input, &mut frame);
+    let sent = encode(ends.0, law, 1, width, &input, &mut frame);
     assert_eq!(sent.number, 0);
     let target = core + random.below(u64::from(width - core + 1)) as u8;
     let mut thin = [0; 202];
@@ -84,7 +84,7 @@ fn the_moved_count_is_the_count_of_moved_samples() {
         let mut moved_ever = 0;
         for _ in 0..20 {
             let mut frame = vec![0; 2 + 40 * usize::from(width)];
-            sender = encode(sender, 1, width, &pcm(&mut random, 1, 320), &mut frame).state;
+            sender = encode(sender, 1, 1, width, &pcm(&mut random, 1, 320), &mut frame).state;
             let mut state = receiver;
             let mut moved = 0;
             let header = read_header(&frame).unwrap();

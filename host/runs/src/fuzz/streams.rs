@@ -37,7 +37,7 @@ fn frame(random: &mut Random, law: Law, state: &mut State) -> Vec<u8> {
     let width = random.within(state.core.into(), 5) as u8;
     let mut out = [0; 202];
     let pcm = sound(random, law, samples);
-    let answer = calls::encode(*state, law.number(), width, &pcm, &mut out);
+    let answer = calls::encode(*state, law.number(), 1, width, &pcm, &mut out);
     *state = answer.state;
     out[..answer.octets].to_vec()
 }
