@@ -136,8 +136,9 @@ fn only_laws_0_and_1_and_the_nine_pairs() {
 
 #[test]
 fn sample_counts_of_the_encoder() {
-    for samples in 0..=700 {
+    for (edition, samples) in (0..=700).flat_map(|samples| [(1, samples), (2, samples)]) {
         let ask = Encoding {
+            edition,
             samples,
             room: 1_000,
             ..sound_encoding()
@@ -150,14 +151,14 @@ fn sample_counts_of_the_encoder() {
 #[test]
 fn the_encoder_needs_room_for_exactly_the_frame() {
     for (width, core) in PAIRS {
-        for samples in [8, 16, 320] {
-            let octets = 2 + usize::from(width) * samples / 8;
+        for (edition, samples) in [(1, 8), (1, 16), (1, 320), (2, 8), (2, 16), (2, 320)] {
+            let octets = head_octets(edition) + usize::from(width) * samples / 8;
             let state = State::reset(core);
             for (room, due) in [(0, 3), (octets - 1, 3), (octets, 0), (octets + 1, 0)] {
                 let ask = Encoding {
                     state,
                     law: 1,
-                    edition: 1,
+                    edition,
                     width,
                     samples,
                     room,
@@ -224,14 +225,25 @@ fn every_g_of_a_frame() {
 }
 
 #[test]
-fn frames_of_no_one_and_two_octets() {
-    let frames: [(&[u8], u8); 6] = [
+fn frames_of_no_to_three_octets() {
+    let frames: [(&[u8], u8); 17] = [
         (&[], 5),
         (&[0x6B], 5),
+        (&[0xAB], 5),
         (&[0x2B, 2], 5),
+        (&[0xEB, 2], 5),
         (&[0x7B, 2], 1),
+        (&[0xBB, 2], 1),
         (&[0x6B, 0], 2),
+        (&[0xAB, 0], 2),
         (&[0x6B, 2], 6),
+        (&[0xAB, 2], 6),
+        (&[0x2B, 2, 0], 5),
+        (&[0xEB, 2, 0], 5),
+        (&[0xBB, 2, 0], 1),
+        (&[0xAB, 41, 0], 2),
+        (&[0x6B, 2, 0], 6),
+        (&[0xAB, 2, 0], 6),
     ];
     for (frame, due) in frames {
         let ask = Decoding {
@@ -249,9 +261,10 @@ fn frames_of_no_one_and_two_octets() {
 
 #[test]
 fn a_frame_too_long_or_too_short_by_one() {
-    for change in [11, 13] {
-        let mut frame = sound_frame();
-        frame.resize(change, 0);
+    let [plain, numbered] = [sound_frame(), numbered_frame(0)];
+    for (sound, length) in [(&plain, 11), (&plain, 13), (&numbered, 12), (&numbered, 14)] {
+        let mut frame = sound.clone();
+        frame.resize(length, 0);
         let ask = Decoding {
             frame: frame.clone(),
             ..sound_decoding()
@@ -292,12 +305,15 @@ fn target_widths_and_room_of_dropping() {
         let due = if (3..=5).contains(&target) { 0 } else { 8 };
         assert_eq!(dropped(&ask), due, "target {target}");
     }
-    for (room, due) in [(0, 3), (9, 3), (10, 0), (11, 0)] {
-        let ask = Dropping {
-            room,
-            ..sound_dropping()
-        };
-        assert_eq!(dropped(&ask), due, "room {room}");
+    for (frame, octets) in [(sound_frame(), 10), (numbered_frame(9), 11)] {
+        for (room, due) in [(0, 3), (octets - 1, 3), (octets, 0), (octets + 1, 0)] {
+            let ask = Dropping {
+                frame: frame.clone(),
+                room,
+                ..sound_dropping()
+            };
+            assert_eq!(dropped(&ask), due, "room {room}");
+        }
     }
 }
 
