@@ -62,7 +62,7 @@ pub fn answer_to(call: &Call) -> String {
 
 fn to_encode(c: &Encode) -> String {
     let mut out = c.out.clone();
-    let a = calls::encode(c.state, c.law, c.width, &c.samples, &mut out);
+    let a = calls::encode(c.state, c.law, c.edition, c.width, &c.samples, &mut out);
     let (out, state) = (write_octets(&out), write_state(&a.state));
     format!("{} {} {out} {state}", a.number, a.octets)
 }
@@ -104,7 +104,7 @@ mod tests {
         let asked = format!("# a\n\nreset 9\nreset\n{long}\n{long}x\nlevel 0 128");
         let due = format!(
             "# a\n\nreset 9 = 1 0 {}\n# line 4: cannot be read: field 2\n{long}\n# line 6: too long\nlevel 0 128 = 8031 128 129\n",
-            "544,34816,0,0,0,0,0,0,0,0,0,0,0,32,32,32,32,32,32,32,32,0,0,0,2"
+            "544,34816,0,0,0,0,0,0,0,0,0,0,0,32,32,32,32,32,32,32,32,0,0,0,2,0"
         );
         assert!(answer(&asked) == due);
         assert_eq!(answer(""), "");

@@ -87,14 +87,14 @@ impl fmt::Display for Call {
 mod tests {
     use super::*;
 
-    const STATE: &str = "544,34816,0,0,0,0,0,0,0,0,0,0,0,32,32,32,32,32,32,32,32,0,0,0,2";
+    const STATE: &str = "544,34816,0,0,0,0,0,0,0,0,0,0,0,32,32,32,32,32,32,32,32,0,0,0,2,7";
     const READER: &str = "1,0000000000000003,0000000000000000,2,1,1,18,0";
 
     #[test]
     fn a_call_is_read_as_it_is_written() {
         for line in [
             "reset 255".to_string(),
-            format!("encode {STATE} 0 5 ff00 -"),
+            format!("encode {STATE} 0 2 5 ff00 -"),
             format!("decode {STATE} 255 - 00"),
             "drop 6a01 3 000000".to_string(),
             "level 1 213".to_string(),

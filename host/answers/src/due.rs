@@ -2,6 +2,7 @@
 
 use crate::call::Call;
 use crate::fields::{octets, state, write_octets, write_state};
+use crate::rows::due_reply;
 use crate::text_due;
 use second::state::State;
 use second::text::Verdict;
@@ -119,9 +120,10 @@ pub fn same<T: PartialEq + std::fmt::Debug>(what: &str, found: &T, due: &T) -> R
     Err(format!("{what} {found:?}, where {due:?} is due"))
 }
 
-/// What the rules say of every answer: a refusal reports nothing, writes nothing and keeps the state; a success writes as many
+/// What the rules say of every answer: its number is that of the first row that applies; a refusal reports nothing, writes nothing and keeps the state; a success writes as many
 /// octets as the call's own form says, and the buffer beyond them stays.
 fn hold_always(call: &Call, found: &Parts) -> Result<(), String> {
+    same("number", &Some(found.number), &due_reply(call))?;
     let (out, kept) = handed_in(call);
     let written = if found.number == 0 {
         due_octets(call)
@@ -134,6 +136,8 @@ fn hold_always(call: &Call, found: &Parts) -> Result<(), String> {
     let beyond = |octets: &[u8]| write_octets(&octets[written..]);
     same("out beyond the octets", &beyond(&found.out), &beyond(out))?;
     if found.number == 0 {
+        hold_header(call, &found.out)?;
+        hold_number(call, found.state)?;
         return at_most("moved", found.moved, written);
     }
     same("moved", &found.moved, &0)?;
@@ -163,10 +167,53 @@ fn handed_in(call: &Call) -> (&[u8], Option<State>) {
 
 /// How many octets a success writes, by the lengths of what is handed in.
 fn due_octets(call: &Call) -> usize {
+    let head = due_header(call).len();
     match call {
-        Call::Encode(c) => 2 + usize::from(c.width) * (c.samples.len() / 8),
+        Call::Encode(c) => head + usize::from(c.width) * (c.samples.len() / 8),
         Call::Decode(c) => 8 * usize::from(c.frame[1]),
-        Call::Drop(c) => 2 + usize::from(c.width) * usize::from(c.frame[1]),
+        Call::Drop(c) => head + usize::from(c.width) * usize::from(c.frame[1]),
         _ => 0,
     }
+}
+
+/// The header of the frame that a success writes; nothing where it writes none.
+fn due_header(call: &Call) -> Vec<u8> {
+    let header = |edition: u8, width: u8, core: u8, groups: u8, number: u8| {
+        let first = 64 * u32::from(edition) + 8 * u32::from(width) + u32::from(core);
+        match edition {
+            2 => vec![first as u8, groups, number],
+            _ => vec![first as u8, groups],
+        }
+    };
+    match call {
+        Call::Encode(c) => {
+            let groups = (c.samples.len() / 8) as u8;
+            header(c.edition, c.width, c.state.core, groups, c.state.number)
+        }
+        Call::Drop(c) => match c.frame.as_slice() {
+            [first, groups, third, ..] => header(first >> 6, c.width, first & 7, *groups, *third),
+            _ => Vec::new(),
+        },
+        _ => Vec::new(),
+    }
+}
+
+fn hold_header(call: &Call, out: &[u8]) -> Result<(), String> {
+    let due = due_header(call);
+    same("header", &&out[..due.len()], &due.as_slice())
+}
+
+/// A success in edition 2 moves the number on, and one in edition 1 leaves it.
+fn hold_number(call: &Call, found: Option<State>) -> Result<(), String> {
+    let (edition, given) = match call {
+        Call::Encode(c) => (c.edition, c.state.number),
+        Call::Decode(c) => (c.frame[0] >> 6, c.state.number),
+        _ => return Ok(()),
+    };
+    let due = match (edition, given) {
+        (2, 255) => 0,
+        (2, number) => number + 1,
+        (_, number) => number,
+    };
+    same("next number", &found.map(|state| state.number), &Some(due))
 }

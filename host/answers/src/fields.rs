@@ -1,10 +1,10 @@
-//! The fields of a line: numbers in decimal digits, octets in pairs of hexadecimal digits with `-` for none, a state as 25
+//! The fields of a line: numbers in decimal digits, octets in pairs of hexadecimal digits with `-` for none, a state as 26
 //! numbers between commas. Each value is written in one way only, so that a line says the same when it is written again.
 
 use second::state::State;
 
 /// How many numbers a state has.
-const NUMBERS: usize = 25;
+const NUMBERS: usize = 26;
 
 /// Digits only, and no leading zero.
 pub fn number<T: TryFrom<u64>>(text: &str) -> Option<T> {
@@ -70,6 +70,7 @@ pub fn state(text: &str) -> Option<State> {
         pk2: word(22)?,
         td: word(23)?,
         core: number(parts[24])?,
+        number: number(parts[25])?,
     })
 }
 
@@ -115,13 +116,15 @@ mod tests {
     #[test]
     fn a_state_is_read_as_it_is_written() {
         let text =
-            "65535,4294967295,0,1,2,3,4,5,6,7,8,9,10,11,12,13,14,15,16,17,18,65533,65534,65535,255";
+            "65535,4294967295,0,1,2,3,4,5,6,7,8,9,10,11,12,13,14,15,16,17,18,65533,65534,65535,254,255";
         assert_eq!(write_state(&state(text).unwrap()), text);
         for wrong in [
             text.replace(",0,", ","),
             text.replace(",0,", ",0,0,"),
             text.replace(",0,", ",,"),
+            text.replace(",254", ",256"),
             text.replace(",255", ",256"),
+            text.replace(",255", ""),
             text.replace("4294967295", "4294967296"),
         ] {
             assert_eq!(state(&wrong), None, "{wrong}");

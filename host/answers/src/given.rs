@@ -11,6 +11,7 @@ use std::fmt;
 pub struct Encode {
     pub state: State,
     pub law: u8,
+    pub edition: u8,
     pub width: u8,
     pub samples: Vec<u8>,
     pub out: Vec<u8>,
@@ -21,6 +22,7 @@ impl Encode {
         Ok(Encode {
             state: fields.take(state)?,
             law: fields.take(number)?,
+            edition: fields.take(number)?,
             width: fields.take(number)?,
             samples: fields.take(octets)?,
             out: fields.take(octets)?,
@@ -32,7 +34,8 @@ impl fmt::Display for Encode {
     fn fmt(&self, f: &mut fmt::Formatter) -> fmt::Result {
         let (samples, out) = (write_octets(&self.samples), write_octets(&self.out));
         let state = write_state(&self.state);
-        write!(f, "{state} {} {} {samples} {out}", self.law, self.width)
+        let (law, edition, width) = (self.law, self.edition, self.width);
+        write!(f, "{state} {law} {edition} {width} {samples} {out}")
     }
 }
 

@@ -11,6 +11,7 @@ pub mod groups;
 pub mod line;
 pub mod page;
 pub mod report;
+pub mod rows;
 pub mod stored;
 pub mod text_due;
 pub mod text_fields;

@@ -13,11 +13,11 @@ type Saying = (&'static str, &'static str, &'static [&'static str]);
 
 const SAYINGS: [Saying; 5] = [
     ("reset", "reply", &["0", "1"]),
-    ("encode", "reply", &["0", "1", "2", "3", "4", "9"]),
+    ("encode", "reply", &["0", "1", "2", "3", "4", "5", "9"]),
     (
         "decode",
         "reply",
-        &["0", "1", "2", "3", "4", "5", "6", "7", "9"],
+        &["0", "1", "2", "3", "4", "5", "6", "7", "9", "10"],
     ),
     ("drop", "reply", &["0", "1", "2", "3", "5", "6", "8"]),
     ("end_text", "verdict", &["0", "1", "2", "3", "4"]),
@@ -117,7 +117,13 @@ mod tests {
     #[test]
     fn what_never_occurs_is_told() {
         let stored = read(ANSWERED).expect("the stored answers");
-        for (call, said) in [("drop", "8"), ("end_text", "0"), ("end_text", "4")] {
+        for (call, said) in [
+            ("encode", "5"),
+            ("decode", "10"),
+            ("drop", "8"),
+            ("end_text", "0"),
+            ("end_text", "4"),
+        ] {
             let others = |line: &&str| call_and_first(line) != Some((call, said));
             let fewer: Vec<&str> = stored.lines().filter(others).collect();
             let report = counted(&fewer.join("\n"), 0);

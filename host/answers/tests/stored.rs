@@ -6,6 +6,7 @@ use answers::due::{parts, Parts};
 use answers::groups;
 use answers::page::{Item, Page};
 use answers::stored::{read, ANSWERED};
+use second::state::State;
 use std::collections::BTreeSet;
 
 struct Stored {
@@ -38,7 +39,7 @@ impl Stored {
 }
 
 #[test]
-fn what_01_says_is_stored() {
+fn what_the_rules_say_is_stored() {
     let stored = stored();
     assert_eq!(stored.page.items.len(), stored.lines.len());
     for (place, item) in stored.page.items.iter().enumerate() {
@@ -78,7 +79,7 @@ fn the_greatest_levels() {
 #[test]
 fn both_ends_have_one_state() {
     let stored = stored();
-    for group in ["streams", "jumps"] {
+    for group in ["streams", "jumps", "wraps"] {
         for three in stored.group(group).chunks(3) {
             let [(_, sent), (_, thin), (_, decoded)] = three else {
                 panic!("a frame is three lines");
@@ -102,6 +103,58 @@ fn a_stream_goes_on() {
         assert_eq!(Some(second.state), four[0].1.state);
         assert_ne!(four[2].1.state, four[0].1.state);
     }
+}
+
+/// From 253 on, with two frames of edition 1 among eight.
+#[test]
+fn the_numbers_go_on_across_the_wrap() {
+    for frames in stored().group("wraps").chunks(24) {
+        let numbers = frames.chunks(3).filter_map(|three| match three[0].0 {
+            Call::Encode(c) if c.edition == 2 => Some(three[1].1.out[2]),
+            _ => None,
+        });
+        assert_eq!(numbers.collect::<Vec<_>>(), [253, 254, 255, 0, 1, 2]);
+    }
+}
+
+/// What a stream has come to: the frames of edition 2 in the order in which they were written, and how many were taken.
+#[derive(Default)]
+struct History {
+    written: Vec<Vec<u8>>,
+    taken: usize,
+}
+
+impl History {
+    fn is_due(&self, frame: &[u8]) -> bool {
+        let place = self.written.iter().position(|written| written == frame);
+        place.expect("a frame that was written") % 256 == self.taken % 256
+    }
+}
+
+/// A frame of edition 2 is taken exactly where its place equals, modulo 256, the count of those taken before it.
+#[test]
+fn a_numbered_frame_is_taken_at_its_place() {
+    let mut history = History::default();
+    let mut refused = 0;
+    for (call, answer) in stored().group("lost") {
+        match call {
+            Call::Encode(c) => {
+                if c.state == State::reset(c.state.core) {
+                    history = History::default();
+                }
+                let numbered = (c.edition == 2).then_some(answer.out);
+                history.written.extend(numbered);
+            }
+            Call::Decode(c) if c.frame[0] >> 6 == 2 => {
+                let due = history.is_due(&c.frame);
+                assert_eq!(answer.number, if due { 0 } else { 10 });
+                history.taken += usize::from(due);
+                refused += usize::from(!due);
+            }
+            _ => assert_eq!(answer.number, 0),
+        }
+    }
+    assert!(refused > 255);
 }
 
 #[test]
@@ -163,7 +216,8 @@ fn is_of_codec(call: &Call) -> bool {
     )
 }
 
-/// What the calls that were done stand for: both laws with all nine pairs, every thinning, tones and moved octets.
+/// What the calls that were done stand for: both laws and both editions with all nine pairs, every thinning, tones and moved
+/// octets.
 #[test]
 fn the_calls_are_many_sided() {
     let stored = stored();
@@ -183,13 +237,13 @@ fn the_calls_are_many_sided() {
         (BTreeSet::new(), BTreeSet::new(), BTreeSet::new());
     for (call, _) in &done {
         match call {
-            Call::Encode(c) => drop(encoded.insert((c.law, c.width, c.state.core))),
+            Call::Encode(c) => drop(encoded.insert((c.law, c.edition, c.width, c.state.core))),
             Call::Decode(c) => drop(decoded.insert((c.law, c.frame[0]))),
             Call::Drop(c) => drop(thinned.insert((c.frame[0], c.width))),
             _ => {}
         };
     }
-    assert_eq!((encoded.len(), decoded.len(), thinned.len()), (18, 18, 19));
+    assert_eq!((encoded.len(), decoded.len(), thinned.len()), (36, 36, 38));
     assert!(done.iter().any(|(_, answer)| answer.moved > 0));
     let tones = done
         .iter()

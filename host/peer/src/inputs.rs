@@ -134,6 +134,7 @@ fn runs(random: &mut Random, count: usize, values: u64, longest: u64) -> Vec<u8>
 
 /// A state of the table of ranges, with A1 and A2 inside the limits that LIMC and LIMD keep:
 /// spandsp folds those limits into its update and so says nothing of coefficients beyond them.
+/// Its number is 0, as spandsp's states have it.
 pub fn limited_state(random: &mut Random, core: u8) -> State {
     let a2 = random.within(0, 24_576) as i32 - 12_288;
     let bound = 15_360 - a2;
@@ -141,6 +142,7 @@ pub fn limited_state(random: &mut Random, core: u8) -> State {
     State {
         a1: a1 as u16,
         a2: a2 as u16,
+        number: 0,
         ..any_state(random, core)
     }
 }

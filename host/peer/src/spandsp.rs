@@ -120,6 +120,7 @@ impl Peer {
         pcm
     }
 
+    /// At the number 0: spandsp knows no frames.
     pub fn state(&self) -> State {
         let fields = self.fields();
         State {
@@ -138,6 +139,7 @@ impl Peer {
             pk2: fields.pk[1] as u16,
             td: fields.td as u16,
             core: CORE,
+            number: 0,
         }
     }
 

@@ -19,6 +19,11 @@ impl Random {
         z ^ (z >> 31)
     }
 
+    /// One that gives what this one is about to give, and leaves it where it is.
+    pub fn ahead(&self) -> Random {
+        Random(self.0)
+    }
+
     pub fn below(&mut self, bound: u64) -> u64 {
         self.draw() % bound
     }

@@ -35,7 +35,8 @@ pub fn bit(random: &mut Random) -> u16 {
     random.below(2) as u16
 }
 
-/// Any state that the calls take.
+/// Any state that the calls take. Its number is looked ahead at and not drawn, so that it moves
+/// nothing that is drawn behind it.
 pub fn any_state(random: &mut Random, core: u8) -> State {
     State {
         yu: random.within(544, 5_120) as u16,
@@ -53,5 +54,6 @@ pub fn any_state(random: &mut Random, core: u8) -> State {
         pk2: bit(random),
         td: bit(random),
         core,
+        number: random.ahead().within(0, 255) as u8,
     }
 }

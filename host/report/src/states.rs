@@ -26,10 +26,10 @@ pub fn compare<T: PartialEq>(near: &[T], far: &[T]) -> Agreement {
     }
 }
 
-const NUMBERS: usize = 26;
+const NUMBERS: usize = 27;
 const PLACE_OF_YL: usize = 2;
 
-/// The lines of states: the frame's index and 25 numbers. Anything else is not what was asked for,
+/// The lines of states: the frame's index and 26 numbers. Anything else is not what was asked for,
 /// and must not pass as agreement because both ends say it.
 pub fn lines(said: &str) -> Result<Vec<String>, String> {
     said.lines()
@@ -56,8 +56,8 @@ pub fn slow_scales(lines: &[String]) -> Vec<u32> {
 mod tests {
     use super::*;
 
-    fn line(frame: usize, last: u8) -> String {
-        format!("{frame} 544 34816{} {last}", " 0".repeat(22))
+    fn line(frame: usize, core: u8) -> String {
+        format!("{frame} 544 34816{} {core} 0", " 0".repeat(22))
     }
 
     #[test]

@@ -50,9 +50,16 @@ pub fn reset(core: u8) -> ResetAnswer {
     }
 }
 
-/// One frame from the whole of `pcm`.
-pub fn encode(state: State, law: u8, width: u8, pcm: &[u8], out: &mut [u8]) -> EncodeAnswer {
-    match encode_plan(&state, law, width, pcm.len(), out.len()) {
+/// One frame of the edition asked for, from the whole of `pcm`.
+pub fn encode(
+    state: State,
+    law: u8,
+    edition: u8,
+    width: u8,
+    pcm: &[u8],
+    out: &mut [u8],
+) -> EncodeAnswer {
+    match encode_plan(&state, law, edition, width, pcm.len(), out.len()) {
         Err(number) => EncodeAnswer {
             number,
             octets: 0,
@@ -64,7 +71,7 @@ pub fn encode(state: State, law: u8, width: u8, pcm: &[u8], out: &mut [u8]) -> E
             EncodeAnswer {
                 number: replies::DONE,
                 octets: header.octets(),
-                state: last,
+                state: behind(header, last),
             }
         }
     }
@@ -73,18 +80,22 @@ pub fn encode(state: State, law: u8, width: u8, pcm: &[u8], out: &mut [u8]) -> E
 fn encode_plan(
     state: &State,
     law: u8,
+    edition: u8,
     width: u8,
     samples: usize,
     room: usize,
 ) -> Result<(Law, Header), u8> {
     demand(state.in_range(), replies::STATE_OUT_OF_RANGE)?;
     let law = Law::from_number(law).ok_or(replies::NO_SUCH_LAW)?;
+    demand(frame::is_edition(edition), replies::NOT_A_FRAME)?;
     demand(replies::is_pair(width, state.core), replies::NO_SUCH_PAIR)?;
     demand(frame::is_sample_count(samples), replies::BAD_SAMPLE_COUNT)?;
     let header = Header {
+        edition,
         width,
         core: state.core,
         groups: samples / frame::GROUP,
+        number: frame::has_number(edition).then_some(state.number),
     };
     demand(room >= header.octets(), replies::OUT_TOO_SHORT)?;
     Ok((law, header))
@@ -103,6 +114,16 @@ fn encode_samples(first: State, law: Law, width: u8, pcm: &[u8]) -> (Vec<u8>, St
     (codewords, state)
 }
 
+/// The last sample's state with the number that is due behind a frame done: the one after the
+/// frame's own, or the same where it has none.
+fn behind(header: Header, last: State) -> State {
+    let after = |number: u8| number.wrapping_add(1);
+    State {
+        number: header.number.map_or(last.number, after),
+        ..last
+    }
+}
+
 /// The whole of `frame` to PCM, with the count of bytes that SYNC moved.
 pub fn decode(state: State, law: u8, frame: &[u8], out: &mut [u8]) -> DecodeAnswer {
     match decode_plan(&state, law, frame, out.len()) {
@@ -119,7 +140,7 @@ pub fn decode(state: State, law: u8, frame: &[u8], out: &mut [u8]) -> DecodeAnsw
                 number: replies::DONE,
                 octets: header.samples(),
                 moved,
-                state: last,
+                state: behind(header, last),
             }
         }
     }
@@ -130,6 +151,8 @@ fn decode_plan(state: &State, law: u8, frame: &[u8], room: usize) -> Result<(Law
     let law = Law::from_number(law).ok_or(replies::NO_SUCH_LAW)?;
     let header = frame::read_header(frame)?;
     demand(header.core == state.core, replies::OTHER_CORE)?;
+    let due = |number| number == state.number;
+    demand(header.number.is_none_or(due), replies::OTHER_NUMBER)?;
     demand(room >= header.samples(), replies::OUT_TOO_SHORT)?;
     Ok((law, header))
 }

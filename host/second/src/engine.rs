@@ -51,6 +51,7 @@ pub fn advance(state: &State, core_codeword: u8) -> State {
         pk2: state.pk1,
         td: u16::from(tone),
         core: state.core,
+        number: state.number,
     };
     if transition {
         triggered(moved_on)

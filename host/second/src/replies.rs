@@ -6,11 +6,13 @@ pub const NO_SUCH_PAIR: u8 = 1;
 pub const BAD_SAMPLE_COUNT: u8 = 2;
 pub const OUT_TOO_SHORT: u8 = 3;
 pub const STATE_OUT_OF_RANGE: u8 = 4;
+/// Also where the encoder is asked for an edition that no frame has.
 pub const NOT_A_FRAME: u8 = 5;
 pub const WRONG_LENGTH: u8 = 6;
 pub const OTHER_CORE: u8 = 7;
 pub const BAD_TARGET_WIDTH: u8 = 8;
 pub const NO_SUCH_LAW: u8 = 9;
+pub const OTHER_NUMBER: u8 = 10;
 
 pub const NARROWEST_CORE: u8 = 2;
 pub const WIDEST_CORE: u8 = 4;

@@ -1,5 +1,5 @@
-//! What one end keeps between samples, in the words of the Recommendation's Table 7, with the
-//! values at reset and the range of each. Fields are wide enough to hold values out of range,
+//! What one end keeps between samples, in the words of the Recommendation's Table 7, and between
+//! frames, with the values at reset and the range of each. Fields are wide enough to hold values out of range,
 //! because the public calls must be able to refuse them.
 
 use crate::replies::is_core;
@@ -21,6 +21,8 @@ pub struct State {
     pub pk2: u16,
     pub td: u16,
     pub core: u8,
+    /// The one that the next numbered frame bears.
+    pub number: u8,
 }
 
 /// The floating point word of +0.
@@ -47,6 +49,7 @@ impl State {
             pk2: 0,
             td: 0,
             core,
+            number: 0,
         }
     }
 
@@ -57,11 +60,12 @@ impl State {
         let last = [self.sr1, self.sr2, self.pk1, self.pk2, self.td];
         let all = words.iter().chain(&self.b).chain(&self.dq).chain(&last);
         numbers.extend(all.map(|&word| u32::from(word)));
-        numbers.push(u32::from(self.core));
+        numbers.extend([self.core, self.number].map(u32::from));
         numbers
     }
 
-    /// One test for each row of the table of ranges; A and B may be any word.
+    /// One test for each row of the table of ranges; A and B may be any word, and the number any
+    /// octet.
     pub fn in_range(&self) -> bool {
         (544..=5_120).contains(&self.yu)
             && (34_816..=327_680).contains(&self.yl)
@@ -104,7 +108,8 @@ mod tests {
             pk2: 23,
             td: 24,
             core: 25,
+            number: 26,
         };
-        assert_eq!(state.numbers(), Vec::from_iter(1..=25));
+        assert_eq!(state.numbers(), Vec::from_iter(1..=26));
     }
 }

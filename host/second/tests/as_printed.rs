@@ -353,6 +353,7 @@ fn next_state(s: &State, ic: u32) -> State {
         pk2: s.pk1,
         td: trigb(tdp),
         core: s.core,
+        number: s.number,
     }
 }
 

@@ -36,7 +36,8 @@ fn the_same_through_the_call_and_the_planes() {
         for (law, byte, codeword) in TWELVE {
             let mut out = [0; 7];
             let pcm = [byte, 0xFF, 0xFF, 0xFF, 0xFF, 0xFF, 0xFF, 0xFF];
-            let answer = calls::encode(calls::reset(core).state, law.number(), 5, &pcm, &mut out);
+            let start = calls::reset(core).state;
+            let answer = calls::encode(start, law.number(), 1, 5, &pcm, &mut out);
             assert_eq!((answer.number, answer.octets), (0, 7));
             let first = out[2..]
                 .iter()

@@ -1,4 +1,5 @@
-//! The worked frames, and packing, unpacking and dropping over every pair and many lengths.
+//! The worked frames, and packing, unpacking and dropping over every pair and many lengths, in
+//! both editions.
 
 use random::states::PAIRS;
 use random::Random;
@@ -7,9 +8,19 @@ use second::frame::{pack, read_header, unpack, Header};
 
 fn header(width: u8, core: u8, groups: usize) -> Header {
     Header {
+        edition: 1,
         width,
         core,
         groups,
+        number: None,
+    }
+}
+
+fn numbered(width: u8, core: u8, groups: usize, number: u8) -> Header {
+    Header {
+        edition: 2,
+        number: Some(number),
+        ..header(width, core, groups)
     }
 }
 
@@ -20,7 +31,7 @@ fn packed(header: Header, codewords: &[u8]) -> Vec<u8> {
 }
 
 fn dropped(frame: &[u8], target: u8) -> Vec<u8> {
-    let mut out = vec![0xEE; 202];
+    let mut out = vec![0xEE; 203];
     let answer = drop_planes(frame, target, &mut out);
     assert_eq!(answer.number, 0);
     assert!(out[answer.octets..].iter().all(|&octet| octet == 0xEE));
@@ -42,19 +53,34 @@ fn once_00001_and_seven_times_00000() {
     assert_eq!(dropped(&frame, 4), [0x62, 0x01, 0x00, 0x00, 0x00, 0x00]);
 }
 
+/// An octet of number behind g, and all else as in edition 1.
+#[test]
+fn eight_times_10000_with_the_number_a5() {
+    let frame = packed(numbered(5, 2, 1, 0xA5), &[0b10000; 8]);
+    assert_eq!(frame, [0xAA, 0x01, 0xA5, 0xFF, 0x00, 0x00, 0x00, 0x00]);
+    assert_eq!(dropped(&frame, 2), [0x92, 0x01, 0xA5, 0xFF, 0x00]);
+}
+
+fn drawn_codewords(random: &mut Random, head: Header) -> Vec<u8> {
+    (0..head.samples())
+        .map(|_| random.below(1 << head.width) as u8)
+        .collect()
+}
+
 #[test]
 fn a_frame_gives_its_header_and_codewords_back() {
     let mut random = Random::new(4);
     for (width, core) in PAIRS {
         for groups in [1, 2, 3, 17, 39, 40] {
-            let head = header(width, core, groups);
-            let codewords: Vec<u8> = (0..head.samples())
-                .map(|_| random.below(1 << width) as u8)
-                .collect();
-            let frame = packed(head, &codewords);
-            assert_eq!(frame.len(), 2 + usize::from(width) * groups);
-            assert_eq!(read_header(&frame), Ok(head));
-            assert_eq!(unpack(head, &frame), codewords);
+            let plain = header(width, core, groups);
+            let numbered = numbered(width, core, groups, random.byte());
+            for (head, before_planes) in [(plain, 2), (numbered, 3)] {
+                let codewords = drawn_codewords(&mut random, head);
+                let frame = packed(head, &codewords);
+                assert_eq!(frame.len(), before_planes + usize::from(width) * groups);
+                assert_eq!(read_header(&frame), Ok(head));
+                assert_eq!(unpack(head, &frame), codewords);
+            }
         }
     }
 }
@@ -64,24 +90,31 @@ fn a_frame_gives_its_header_and_codewords_back() {
 fn dropping_shifts_the_codewords() {
     let mut random = Random::new(5);
     for (width, core) in PAIRS {
-        let head = header(width, core, 7);
-        let codewords: Vec<u8> = (0..56).map(|_| random.below(1 << width) as u8).collect();
-        let frame = packed(head, &codewords);
-        assert_eq!(dropped(&frame, width), frame);
-        for target in core..=width {
-            let thin = dropped(&frame, target);
-            let shifted: Vec<u8> = codewords.iter().map(|c| c >> (width - target)).collect();
-            let thin_header = header(target, core, 7);
-            assert_eq!(read_header(&thin), Ok(thin_header));
-            assert_eq!(unpack(thin_header, &thin), shifted);
-            for last in core..=target {
-                assert_eq!(dropped(&thin, last), dropped(&frame, last));
-            }
+        shifts(&mut random, header(width, core, 7));
+        let number = random.byte();
+        shifts(&mut random, numbered(width, core, 7, number));
+    }
+}
+
+fn shifts(random: &mut Random, head: Header) {
+    let codewords = drawn_codewords(random, head);
+    let frame = packed(head, &codewords);
+    assert_eq!(dropped(&frame, head.width), frame);
+    for width in head.core..=head.width {
+        let thin = dropped(&frame, width);
+        let gone = head.width - width;
+        let shifted: Vec<u8> = codewords.iter().map(|c| c >> gone).collect();
+        let thin_header = Header { width, ..head };
+        assert_eq!(read_header(&thin), Ok(thin_header));
+        assert_eq!(unpack(thin_header, &thin), shifted);
+        for last in head.core..=width {
+            assert_eq!(dropped(&thin, last), dropped(&frame, last));
         }
     }
 }
 
 #[test]
-fn the_longest_frame_has_202_octets() {
+fn the_longest_frames_have_202_and_203_octets() {
     assert_eq!(header(5, 4, 40).octets(), 202);
+    assert_eq!(numbered(5, 4, 40, 0).octets(), 203);
 }

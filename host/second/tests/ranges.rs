@@ -55,6 +55,11 @@ fn rows_of_coefficients_allow_any_word() {
     }
 }
 
+#[test]
+fn the_row_of_the_number_allows_any_octet() {
+    check(|s, v| s.number = v, &Vec::from_iter(0..=255), &[]);
+}
+
 /// 960 is exponent 15 with no mantissa, 1,984 the same with the sign.
 #[test]
 fn rows_of_floating_point_words() {

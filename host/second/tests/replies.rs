@@ -1,194 +1,81 @@
 //! Every reply of every call, the order of the rows where two or more apply, the limit cases,
 //! and that a refused call writes nothing and keeps the state.
 
+mod support;
+
 use random::states::PAIRS;
 use random::Random;
-use second::calls::{decode, drop_planes, encode, reset};
+use second::calls::{encode, reset};
 use second::state::State;
-
-const FILL: u8 = 0xA5;
-
-/// What the encoder is asked; each test spoils some of it.
-#[derive(Clone)]
-struct Encoding {
-    state: State,
-    law: u8,
-    width: u8,
-    samples: usize,
-    room: usize,
-}
-
-fn sound_encoding() -> Encoding {
-    Encoding {
-        state: State::reset(3),
-        law: 0,
-        width: 5,
-        samples: 16,
-        room: 12,
-    }
-}
-
-/// The number that the encoder answers. Everything else an answer says is looked at here.
-fn encoded(ask: &Encoding) -> u8 {
-    let pcm = Random::new(20).bytes(ask.samples);
-    let mut out = vec![FILL; ask.room];
-    let answer = encode(ask.state, ask.law, ask.width, &pcm, &mut out);
-    if answer.number == 0 {
-        let octets = 2 + usize::from(ask.width) * ask.samples / 8;
-        assert_eq!(answer.octets, octets);
-        assert!(out[octets..].iter().all(|&octet| octet == FILL));
-        assert_ne!(answer.state, ask.state);
-    } else {
-        assert_eq!((answer.octets, answer.state), (0, ask.state));
-        assert!(out.iter().all(|&octet| octet == FILL));
-    }
-    answer.number
-}
-
-/// What the decoder is asked.
-#[derive(Clone)]
-struct Decoding {
-    state: State,
-    law: u8,
-    frame: Vec<u8>,
-    room: usize,
-}
-
-/// A frame of two groups at (5,3).
-fn sound_frame() -> Vec<u8> {
-    vec![
-        0x6B, 2, 0x12, 0x34, 0x56, 0x78, 0x9A, 0xBC, 0xDE, 0xF0, 0x0F, 0x1E,
-    ]
-}
-
-fn sound_decoding() -> Decoding {
-    Decoding {
-        state: State::reset(3),
-        law: 1,
-        frame: sound_frame(),
-        room: 16,
-    }
-}
-
-fn decoded(ask: &Decoding) -> u8 {
-    let mut out = vec![FILL; ask.room];
-    let answer = decode(ask.state, ask.law, &ask.frame, &mut out);
-    if answer.number == 0 {
-        let samples = 8 * usize::from(ask.frame[1]);
-        assert_eq!(answer.octets, samples);
-        assert!(answer.moved <= samples);
-        assert!(out[samples..].iter().all(|&octet| octet == FILL));
-        assert_ne!(answer.state, ask.state);
-    } else {
-        assert_eq!((answer.octets, answer.moved), (0, 0));
-        assert_eq!(answer.state, ask.state);
-        assert!(out.iter().all(|&octet| octet == FILL));
-    }
-    answer.number
-}
-
-/// What is asked of dropping.
-#[derive(Clone)]
-struct Dropping {
-    frame: Vec<u8>,
-    target: u8,
-    room: usize,
-}
-
-fn sound_dropping() -> Dropping {
-    Dropping {
-        frame: sound_frame(),
-        target: 4,
-        room: 10,
-    }
-}
-
-fn dropped(ask: &Dropping) -> u8 {
-    let mut out = vec![FILL; ask.room];
-    let answer = drop_planes(&ask.frame, ask.target, &mut out);
-    if answer.number == 0 {
-        let octets = 2 + usize::from(ask.target) * usize::from(ask.frame[1]);
-        assert_eq!(answer.octets, octets);
-        assert_eq!(out[2..octets], ask.frame[2..octets]);
-        assert!(out[octets..].iter().all(|&octet| octet == FILL));
-    } else {
-        assert_eq!(answer.octets, 0);
-        assert!(out.iter().all(|&octet| octet == FILL));
-    }
-    answer.number
-}
-
-/// A way to spoil a call, with the reply that is then due.
-type Fault<T> = (u8, fn(&mut T));
-
-/// Spoils a sound call in every combination of faults. The list is in the order of the rows, so
-/// that the first fault of a combination decides.
-fn in_order<T: Clone>(sound: T, faults: &[Fault<T>], answer: fn(&T) -> u8) {
-    for chosen in 0..1_u32 << faults.len() {
-        let mut ask = sound.clone();
-        let of_this: Vec<&Fault<T>> = (0..faults.len())
-            .filter(|place| chosen >> place & 1 == 1)
-            .map(|place| &faults[place])
-            .collect();
-        for (_, spoil) in &of_this {
-            spoil(&mut ask);
-        }
-        let due = of_this.first().map_or(0, |fault| fault.0);
-        assert_eq!(answer(&ask), due, "faults {chosen:b}");
-    }
-}
+use support::asked::{
+    decoded, dropped, encoded, head_octets, in_order, numbered_frame, sound_decoding,
+    sound_dropping, sound_encoding, sound_frame, Decoding, Dropping, Encoding, Fault,
+};
 
 #[test]
-fn encode_answers_4_9_1_2_3_in_this_order() {
-    in_order(
-        sound_encoding(),
-        &[
-            (4, |ask| ask.state.ap = 513),
-            (9, |ask| ask.law = 2),
-            (1, |ask| ask.width = 2),
-            (2, |ask| ask.samples = 12),
-            (3, |ask| ask.room = 1),
-        ],
-        encoded,
-    );
+fn encode_answers_4_9_5_1_2_3_in_this_order() {
+    let faults: [Fault<Encoding>; 6] = [
+        (4, |ask| ask.state.ap = 513),
+        (9, |ask| ask.law = 2),
+        (5, |ask| ask.edition = 3),
+        (1, |ask| ask.width = 2),
+        (2, |ask| ask.samples = 12),
+        (3, |ask| ask.room = 1),
+    ];
+    for (edition, room) in [(1, 12), (2, 13)] {
+        let sound = Encoding {
+            edition,
+            room,
+            ..sound_encoding()
+        };
+        in_order(sound, &faults, encoded);
+    }
 }
 
 /// The header's faults leave the others in place: a frame one octet too long is so for any x and
 /// g, and core 4 at width 5 is a pair.
 #[test]
-fn decode_answers_4_9_5_1_2_6_7_3_in_this_order() {
-    in_order(
-        sound_decoding(),
-        &[
-            (4, |ask| ask.state.yu = 543),
-            (9, |ask| ask.law = 255),
-            (5, |ask| ask.frame[0] ^= 0b1100_0000),
-            (1, |ask| {
-                ask.frame[0] = ask.frame[0] & 0b1100_0111 | 0b0011_0000
-            }),
-            (2, |ask| ask.frame[1] = 0),
-            (6, |ask| ask.frame.push(0)),
-            (7, |ask| ask.frame[0] = ask.frame[0] & 0b1111_1000 | 4),
-            (3, |ask| ask.room = 0),
-        ],
-        decoded,
-    );
+fn decode_answers_4_9_5_1_2_6_7_10_3_in_this_order() {
+    let faults: [Fault<Decoding>; 9] = [
+        (4, |ask| ask.state.yu = 543),
+        (9, |ask| ask.law = 255),
+        (5, |ask| ask.frame[0] |= 0b1100_0000),
+        (1, |ask| {
+            ask.frame[0] = ask.frame[0] & 0b1100_0111 | 0b0011_0000
+        }),
+        (2, |ask| ask.frame[1] = 0),
+        (6, |ask| ask.frame.push(0)),
+        (7, |ask| ask.frame[0] = ask.frame[0] & 0b1111_1000 | 4),
+        (10, |ask| ask.state.number = 200),
+        (3, |ask| ask.room = 0),
+    ];
+    let numbered = Decoding {
+        frame: numbered_frame(0),
+        ..sound_decoding()
+    };
+    in_order(numbered, &faults, decoded);
+    let of_edition_1: Vec<_> = faults.into_iter().filter(|fault| fault.0 != 10).collect();
+    in_order(sound_decoding(), &of_edition_1, decoded);
 }
 
 #[test]
 fn drop_answers_5_1_2_6_8_3_in_this_order() {
-    in_order(
-        sound_dropping(),
-        &[
-            (5, |ask| ask.frame[0] &= 0b0011_1111),
-            (1, |ask| ask.frame[0] = ask.frame[0] & 0b1111_1000 | 7),
-            (2, |ask| ask.frame[1] = 41),
-            (6, |ask| ask.frame.truncate(11)),
-            (8, |ask| ask.target = 2),
-            (3, |ask| ask.room = 3),
-        ],
-        dropped,
-    );
+    let faults: [Fault<Dropping>; 6] = [
+        (5, |ask| ask.frame[0] &= 0b0011_1111),
+        (1, |ask| ask.frame[0] = ask.frame[0] & 0b1111_1000 | 7),
+        (2, |ask| ask.frame[1] = 41),
+        (6, |ask| ask.frame.truncate(11)),
+        (8, |ask| ask.target = 2),
+        (3, |ask| ask.room = 3),
+    ];
+    for (frame, room) in [(sound_frame(), 10), (numbered_frame(77), 11)] {
+        let sound = Dropping {
+            frame,
+            room,
+            ..sound_dropping()
+        };
+        in_order(sound, &faults, dropped);
+    }
 }
 
 /// The column of reset values, as the table of ranges has it.
@@ -209,6 +96,7 @@ fn at_reset(core: u8) -> State {
         pk2: 0,
         td: 0,
         core,
+        number: 0,
     }
 }
 
@@ -248,8 +136,9 @@ fn only_laws_0_and_1_and_the_nine_pairs() {
 
 #[test]
 fn sample_counts_of_the_encoder() {
-    for samples in 0..=700 {
+    for (edition, samples) in (0..=700).flat_map(|samples| [(1, samples), (2, samples)]) {
         let ask = Encoding {
+            edition,
             samples,
             room: 1_000,
             ..sound_encoding()
@@ -262,13 +151,14 @@ fn sample_counts_of_the_encoder() {
 #[test]
 fn the_encoder_needs_room_for_exactly_the_frame() {
     for (width, core) in PAIRS {
-        for samples in [8, 16, 320] {
-            let octets = 2 + usize::from(width) * samples / 8;
+        for (edition, samples) in [(1, 8), (1, 16), (1, 320), (2, 8), (2, 16), (2, 320)] {
+            let octets = head_octets(edition) + usize::from(width) * samples / 8;
             let state = State::reset(core);
             for (room, due) in [(0, 3), (octets - 1, 3), (octets, 0), (octets + 1, 0)] {
                 let ask = Encoding {
                     state,
                     law: 1,
+                    edition,
                     width,
                     samples,
                     room,
@@ -284,12 +174,13 @@ fn every_first_octet_of_a_frame() {
     for first in 0..=255_u8 {
         let (edition, width, core) = (first >> 6, first >> 3 & 7, first & 7);
         let due = match (edition, PAIRS.contains(&(width, core)), core) {
-            (0 | 2 | 3, _, _) => 5,
+            (0 | 3, _, _) => 5,
             (_, false, _) => 1,
             (_, _, 3) => 0,
             _ => 7,
         };
-        let mut frame = vec![first, 1];
+        let mut frame = vec![first, 1, 0];
+        frame.truncate(head_octets(edition));
         frame.extend(vec![0x5A; usize::from(width)]);
         let ask = Decoding {
             frame: frame.clone(),
@@ -334,14 +225,25 @@ fn every_g_of_a_frame() {
 }
 
 #[test]
-fn frames_of_no_one_and_two_octets() {
-    let frames: [(&[u8], u8); 6] = [
+fn frames_of_no_to_three_octets() {
+    let frames: [(&[u8], u8); 17] = [
         (&[], 5),
         (&[0x6B], 5),
+        (&[0xAB], 5),
         (&[0x2B, 2], 5),
+        (&[0xEB, 2], 5),
         (&[0x7B, 2], 1),
+        (&[0xBB, 2], 1),
         (&[0x6B, 0], 2),
+        (&[0xAB, 0], 2),
         (&[0x6B, 2], 6),
+        (&[0xAB, 2], 6),
+        (&[0x2B, 2, 0], 5),
+        (&[0xEB, 2, 0], 5),
+        (&[0xBB, 2, 0], 1),
+        (&[0xAB, 41, 0], 2),
+        (&[0x6B, 2, 0], 6),
+        (&[0xAB, 2, 0], 6),
     ];
     for (frame, due) in frames {
         let ask = Decoding {
@@ -359,9 +261,10 @@ fn frames_of_no_one_and_two_octets() {
 
 #[test]
 fn a_frame_too_long_or_too_short_by_one() {
-    for change in [11, 13] {
-        let mut frame = sound_frame();
-        frame.resize(change, 0);
+    let [plain, numbered] = [sound_frame(), numbered_frame(0)];
+    for (sound, length) in [(&plain, 11), (&plain, 13), (&numbered, 12), (&numbered, 14)] {
+        let mut frame = sound.clone();
+        frame.resize(length, 0);
         let ask = Decoding {
             frame: frame.clone(),
             ..sound_decoding()
@@ -402,12 +305,15 @@ fn target_widths_and_room_of_dropping() {
         let due = if (3..=5).contains(&target) { 0 } else { 8 };
         assert_eq!(dropped(&ask), due, "target {target}");
     }
-    for (room, due) in [(0, 3), (9, 3), (10, 0), (11, 0)] {
-        let ask = Dropping {
-            room,
-            ..sound_dropping()
-        };
-        assert_eq!(dropped(&ask), due, "room {room}");
+    for (frame, octets) in [(sound_frame(), 10), (numbered_frame(9), 11)] {
+        for (room, due) in [(0, 3), (octets - 1, 3), (octets, 0), (octets + 1, 0)] {
+            let ask = Dropping {
+                frame: frame.clone(),
+                room,
+                ..sound_dropping()
+            };
+            assert_eq!(dropped(&ask), due, "room {room}");
+        }
     }
 }
 
@@ -452,10 +358,10 @@ fn a_refused_call_may_be_made_again_as_if_it_had_not_been() {
     let pcm = Random::new(21).bytes(64);
     let start = State::reset(4);
     let mut straight = [0; 42];
-    let wanted = encode(start, 0, 5, &pcm, &mut straight);
+    let wanted = encode(start, 0, 1, 5, &pcm, &mut straight);
     let mut out = [0; 42];
-    let refused = encode(start, 0, 5, &pcm, &mut out[..41]);
+    let refused = encode(start, 0, 1, 5, &pcm, &mut out[..41]);
     assert_eq!(refused.number, 3);
-    assert_eq!(encode(refused.state, 0, 5, &pcm, &mut out), wanted);
+    assert_eq!(encode(refused.state, 0, 1, 5, &pcm, &mut out), wanted);
     assert_eq!(out, straight);
 }

@@ -1,7 +1,8 @@
 //! Whole streams: a decoder's state stays the encoder's while planes are dropped at random and
-//! the width changes from frame to frame, and a held codeword takes a coefficient past 32,767.
+//! width and edition change from frame to frame, and a held codeword takes a coefficient past
+//! 32,767.
 
-use random::states::PAIRS;
+use random::states::{any_state, PAIRS};
 use random::Random;
 use second::calls::{self, decode, drop_planes, encode};
 use second::frame::{read_header, unpack};
@@ -26,12 +27,13 @@ fn pcm(random: &mut Random, law: u8, count: usize) -> Vec<u8> {
 fn send(random: &mut Random, law: u8, core: u8, ends: (State, State)) -> (State, State) {
     let width = core + random.below(u64::from(6 - core)) as u8;
     let samples = 8 * (1 + random.below(40) as usize);
-    let mut frame = [0; 202];
+    let edition = 1 + random.below(2) as u8;
+    let mut frame = [0; 203];
     let input = pcm(random, law, samples);
-    let sent = encode(ends.0, law, width, &input, &mut frame);
+    let sent = encode(ends.0, law, edition, width, &input, &mut frame);
     assert_eq!(sent.number, 0);
     let target = core + random.below(u64::from(width - core + 1)) as u8;
-    let mut thin = [0; 202];
+    let mut thin = [0; 203];
     let dropped = drop_planes(&frame[..sent.octets], target, &mut thin);
     assert_eq!(dropped.number, 0);
     let mut out = [0; 320];
@@ -54,6 +56,23 @@ fn the_decoder_follows_the_encoder_while_planes_are_dropped() {
                 assert!(ends.0.in_range());
             }
             assert_ne!(ends.0, start);
+        }
+    }
+}
+
+#[test]
+fn a_thinned_frame_is_the_narrower_encoder_s_octet_for_octet() {
+    let mut random = Random::new(14);
+    for (width, core) in PAIRS {
+        for edition in [1, 2] {
+            let state = any_state(&mut random, core);
+            let input = pcm(&mut random, 0, 80);
+            let [mut wide, mut narrow, mut thin] = [[0xEE; 60]; 3];
+            let sent = encode(state, 0, edition, 5, &input, &mut wide);
+            let direct = encode(state, 0, edition, width, &input, &mut narrow);
+            let dropped = drop_planes(&wide[..sent.octets], width, &mut thin);
+            assert_eq!((dropped.number, dropped.octets), (0, direct.octets));
+            assert_eq!((thin, sent.state), (narrow, direct.state));
         }
     }
 }
@@ -84,7 +103,7 @@ fn the_moved_count_is_the_count_of_moved_samples() {
         let mut moved_ever = 0;
         for _ in 0..20 {
             let mut frame = vec![0; 2 + 40 * usize::from(width)];
-            sender = encode(sender, 1, width, &pcm(&mut random, 1, 320), &mut frame).state;
+            sender = encode(sender, 1, 1, width, &pcm(&mut random, 1, 320), &mut frame).state;
             let mut state = receiver;
             let mut moved = 0;
             let header = read_header(&frame).unwrap();

@@ -1,7 +1,7 @@
 //! A refused call may be made again as if it had not been made: the sound call, the call with a fault, the sound call again.
 //! The program keeps its memory from line to line, so the third answer tells what the refusal left there.
 
-use super::parts::{decode, drop, encode, octets, room, samples, unfit};
+use super::parts::{at_number, decode, drop, encode, in_edition, octets, room, samples, unfit};
 use crate::call::Call;
 use crate::due::Due;
 use crate::page::Page;
@@ -13,8 +13,16 @@ pub fn again(page: &mut Page) {
         "a sound call, a refused one, and the sound one again",
     );
     let s = State::reset(3);
-    let coded =
-        |state, law, width, count, length| encode(state, law, width, samples(count), room(length));
+    encoded_again(page, s);
+    decoded_again(page, s);
+    dropped_again(page);
+    numbered_again(page, at_number(3, 255));
+}
+
+fn encoded_again(page: &mut Page, s: State) {
+    let coded = |state, law, width, count, length| {
+        encode(state, law, 1, width, samples(count), room(length))
+    };
     let sound = coded(s, 0, 5, 16, 12);
     for (number, refused) in [
         (4, coded(unfit(3), 0, 5, 16, 12)),
@@ -25,8 +33,21 @@ pub fn again(page: &mut Page) {
     ] {
         three(page, Due::Done(12), &sound, number, refused);
     }
-    decoded_again(page, s);
-    dropped_again(page);
+}
+
+/// At the number 255, which the sound calls use up and the refused ones do not.
+fn numbered_again(page: &mut Page, s: State) {
+    let coded = |edition, length| encode(s, 0, edition, 5, samples(16), room(length));
+    for (number, refused) in [(5, coded(3, 13)), (3, coded(2, 12))] {
+        three(page, Due::Done(13), &coded(2, 13), number, refused);
+    }
+    let decoded = |number, length| {
+        let frame = in_edition(2, number, octets(0x63, 2, 10));
+        decode(s, 1, frame, room(length))
+    };
+    for (number, refused) in [(10, decoded(0, 16)), (3, decoded(255, 15))] {
+        three(page, Due::Done(16), &decoded(255, 16), number, refused);
+    }
 }
 
 fn decoded_again(page: &mut Page, s: State) {

@@ -1,6 +1,6 @@
 //! Calls drawn as a fuzzer would: each with mostly sound inputs, some spoilt in one place, some garbage.
 
-use super::parts::{decode, drop, encode, frame, frame_octets};
+use super::parts::{decode, drop, encode, frame, frame_octets, in_edition, EDITIONS};
 use super::states::likely_state;
 use crate::call::Call;
 use crate::page::Page;
@@ -109,10 +109,18 @@ fn any_encode(random: &mut Random) -> Call {
     let pair = random.pick(&PAIRS);
     let state = some_state(random, pair.1);
     let width = some_width(random, pair);
+    let edition = some_edition(random);
     let count = some_count(random);
     let samples = some_samples(random, count);
-    let out = some_room(random, frame_octets(width, count));
-    encode(state, any_law(random), width, samples, out)
+    let out = some_room(random, frame_octets(edition, width, count));
+    encode(state, any_law(random), edition, width, samples, out)
+}
+
+fn some_edition(random: &mut Random) -> u8 {
+    match random.below(24) {
+        0 => random.byte(),
+        _ => random.pick(&EDITIONS),
+    }
 }
 
 /// Any octets, or octets about one level of either sign.
@@ -127,29 +135,42 @@ fn some_samples(random: &mut Random, count: usize) -> Vec<u8> {
 fn any_decode(random: &mut Random) -> Call {
     let pair = random.pick(&PAIRS);
     let state = some_state(random, pair.1);
-    let frame = some_frame(random, pair);
+    let number = some_number(random, state.number);
+    let frame = some_frame(random, pair, number);
     let samples = frame.get(1).map_or(0, |&groups| 8 * usize::from(groups));
     let out = some_room(random, samples.min(330));
     decode(state, any_law(random), frame, out)
 }
 
+/// Mostly the one that is due.
+fn some_number(random: &mut Random, due: u8) -> u8 {
+    match random.below(8) {
+        0 => random.byte(),
+        1 => due.wrapping_add(1),
+        _ => due,
+    }
+}
+
 fn any_drop(random: &mut Random) -> Call {
     let pair = random.pick(&PAIRS);
-    let frame = some_frame(random, pair);
+    let number = random.byte();
+    let frame = some_frame(random, pair, number);
     let width = match random.below(8) {
         0 => random.below(9) as u8,
         _ => pair.1 + random.below(u64::from(pair.0 - pair.1) + 1) as u8,
     };
     let samples = frame.get(1).map_or(0, |&groups| 8 * usize::from(groups));
-    let out = some_room(random, frame_octets(width, samples.min(330)));
+    let edition = frame.first().map_or(1, |first| first >> 6);
+    let out = some_room(random, frame_octets(edition, width, samples.min(330)));
     drop(frame, width, out)
 }
 
-fn some_frame(random: &mut Random, pair: (u8, u8)) -> Vec<u8> {
+fn some_frame(random: &mut Random, pair: (u8, u8), number: u8) -> Vec<u8> {
     let (width, core) = pair;
     let count = 8 + 8 * random.below(3) as usize;
     let codewords: Vec<u8> = (0..count).map(|_| random.below(1 << width) as u8).collect();
-    let mut octets = frame(width, core, &codewords);
+    let plain = frame(width, core, &codewords);
+    let mut octets = in_edition(random.pick(&EDITIONS), number, plain);
     match random.below(24) {
         0 => octets = random.bytes(count),
         1 => octets.truncate(random.below(8) as usize),

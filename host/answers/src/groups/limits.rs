@@ -1,40 +1,50 @@
 //! The rules' limit cases: counts of samples, lengths of the buffer, g, and the shortest frames.
 
-use super::parts::{decode, drop, encode, octets, room, samples};
+use super::parts::{
+    decode, drop, encode, head_octets, in_edition, octets, room, samples, EDITIONS,
+};
 use crate::due::Due;
 use crate::page::Page;
 use second::state::State;
 
 pub fn limits(page: &mut Page) {
-    page.group("limits", "01's limit cases, at the limit and one past it");
-    counts(page);
-    groups(page);
-    for length in 0..=4 {
-        short_frames(page, length);
+    page.group(
+        "limits",
+        "the rules' limit cases in both editions, at the limit and one past it",
+    );
+    for edition in EDITIONS {
+        counts(page, edition);
+        groups(page, edition);
+        for length in 0..=6 {
+            short_frames(page, edition, length);
+        }
     }
 }
 
-fn counts(page: &mut Page) {
+fn counts(page: &mut Page, edition: u8) {
     for count in [0, 1, 7, 8, 9, 15, 16, 312, 319, 320, 321, 327, 328, 336] {
         let sound = count % 8 == 0 && (8..=320).contains(&count);
-        page.note(format!("{count} samples"));
+        page.note(format!("{count} samples in edition {edition}"));
         for law in 0..2 {
             let due = if sound {
-                Due::Done(2 + 5 * count / 8)
+                Due::Done(head_octets(edition) + 5 * count / 8)
             } else {
                 Due::Refused(2)
             };
             page.due(
                 due,
-                encode(State::reset(2), law, 5, samples(count), room(205)),
+                encode(State::reset(2), law, edition, 5, samples(count), room(205)),
             );
         }
     }
 }
 
-fn groups(page: &mut Page) {
+fn groups(page: &mut Page, edition: u8) {
+    let frame = |first: u8, groups: u8, planes: usize| {
+        in_edition(edition, 0, octets(first, groups, 2 + planes))
+    };
     for groups in [0, 1, 2, 39, 40, 41, 42, 128, 255_u8] {
-        page.note(format!("g of {groups}"));
+        page.note(format!("g of {groups} in edition {edition}"));
         let sound = (1..=40).contains(&groups);
         let planes = usize::from(groups);
         let due = |octets: usize| {
@@ -44,25 +54,33 @@ fn groups(page: &mut Page) {
                 Due::Refused(2)
             }
         };
-        let whole = octets(0x52, groups, 2 + 2 * planes);
+        let whole = frame(0x52, groups, 2 * planes);
         page.due(
             due(8 * planes),
             decode(State::reset(2), 0, whole, room(322)),
         );
-        let wide = octets(0x6A, groups, 2 + 5 * planes);
-        page.due(due(2 + 3 * planes), drop(wide, 3, room(125)));
+        let wide = frame(0x6A, groups, 5 * planes);
+        let thin = head_octets(edition) + 3 * planes;
+        page.due(due(thin), drop(wide, 3, room(126)));
     }
 }
 
-/// What is left of a frame at (2,2) of one group, or a frame of no octet.
-fn short_frames(page: &mut Page, length: usize) {
-    page.note(format!("a frame of {length} octets, of which 4 are due"));
+/// What is left of a frame at (2,2) of one group, or such a frame with octets behind it.
+fn short_frames(page: &mut Page, edition: u8, length: usize) {
+    let whole = head_octets(edition) + 2;
+    page.note(format!(
+        "a frame of {length} octets, of which {whole} are due"
+    ));
     let due = |done: usize| match length {
         0 | 1 => Due::Refused(5),
-        2 | 3 => Due::Refused(6),
-        _ => Due::Done(done),
+        _ if length == whole => Due::Done(done),
+        _ => Due::Refused(6),
     };
-    let frame = || octets(0x52, 1, length);
+    let frame = || {
+        let mut octets = in_edition(edition, 0, octets(0x52, 1, 6));
+        octets.truncate(length);
+        octets
+    };
     page.due(due(8), decode(State::reset(2), 1, frame(), room(9)));
-    page.due(due(4), drop(frame(), 2, room(5)));
+    page.due(due(whole), drop(frame(), 2, room(6)));
 }

@@ -8,7 +8,7 @@ use crate::due::Due;
 use crate::page::Page;
 use second::state::State;
 
-const STATE: &str = "544,34816,0,0,0,0,0,0,0,0,0,0,0,32,32,32,32,32,32,32,32,0,0,0,2";
+const STATE: &str = "544,34816,0,0,0,0,0,0,0,0,0,0,0,32,32,32,32,32,32,32,32,0,0,0,2,1";
 
 pub fn lines(page: &mut Page) {
     page.group(
@@ -85,10 +85,14 @@ fn states(page: &mut Page) {
     let edges = [
         STATE.replace("544", "65536"),
         STATE.replace("34816", "4294967296"),
-        STATE.replace("0,0,0,2", "0,0,65536,2"),
-        STATE.replace("0,0,0,2", "0,0,0,256"),
-        STATE.replace("0,0,0,2", "0,,0,2"),
-        STATE.replace("0,0,0,2", "0,00,0,2"),
+        STATE.replace("0,0,0,2,1", "0,0,65536,2,1"),
+        STATE.replace("0,0,0,2,1", "0,0,0,256,1"),
+        STATE.replace("0,0,0,2,1", "0,0,0,2,256"),
+        STATE.replace("0,0,0,2,1", "0,0,0,2,01"),
+        STATE.replace("0,0,0,2,1", "0,0,0,2,"),
+        STATE.replace("0,0,0,2,1", "0,0,0,2"),
+        STATE.replace("0,0,0,2,1", "0,,0,2,1"),
+        STATE.replace("0,0,0,2,1", "0,00,0,2,1"),
         STATE.replace(',', "."),
         format!("{STATE},"),
     ];
@@ -96,18 +100,22 @@ fn states(page: &mut Page) {
         .into_iter()
         .chain(edges.iter().map(String::as_str))
     {
-        unread(page, 2, &format!("encode {state} 0 5 ff -"));
+        unread(page, 2, &format!("encode {state} 0 1 5 ff -"));
         unread(page, 2, &format!("decode {state} 0 ff -"));
     }
     for (field, rest) in [
-        (3, "300 5 - -"),
-        (4, "0 300 - -"),
-        (5, "0 5 f -"),
-        (6, "0 5 - f"),
-        (6, "0 5 -"),
+        (3, "300 1 5 - -"),
+        (4, "0 300 5 - -"),
+        (4, "0 01 5 - -"),
+        (5, "0 1 300 - -"),
+        (6, "0 1 5 f -"),
+        (7, "0 1 5 - f"),
+        (7, "0 1 5 -"),
     ] {
         unread(page, field, &format!("encode {STATE} {rest}"));
     }
+    let crowded = format!("encode {STATE} 0 1 5 - - 0");
+    page.other(crowded, "# line N: too many: field 8");
     for (field, rest) in [(3, "300 - -"), (4, "0 f -"), (5, "0 - f"), (5, "0 -")] {
         unread(page, field, &format!("decode {STATE} {rest}"));
     }
@@ -118,7 +126,7 @@ fn long(page: &mut Page) {
     let comment = format!("# {}", "x".repeat(LONGEST - 2));
     page.other(comment.clone(), comment.clone());
     page.other(comment + "x", "# line N: too long");
-    let call = |octets| encode(State::reset(2), 0, 5, vec![0xFF; 8], room(octets));
+    let call = |octets| encode(State::reset(2), 0, 1, 5, vec![0xFF; 8], room(octets));
     page.due(
         Due::Done(7),
         call((LONGEST - call(0).to_string().len()) / 2),

@@ -8,8 +8,11 @@ mod buffers;
 mod cuts;
 mod drawn;
 mod drawn_texts;
+mod editions;
 mod limits;
 mod lines;
+mod lost;
+mod numbers;
 mod order;
 mod output_path;
 mod parts;
@@ -32,7 +35,7 @@ mod writers;
 mod written;
 mod zeros;
 
-const GROUPS: [fn(&mut Page); 38] = [
+const GROUPS: [fn(&mut Page); 42] = [
     worked::frames,
     worked::first_bytes,
     worked::levels,
@@ -42,6 +45,8 @@ const GROUPS: [fn(&mut Page); 38] = [
     buffers::buffers,
     again::again,
     ranges::ranges,
+    editions::editions,
+    numbers::numbers,
     widths::copies,
     widths::dropped,
     widths::changed,
@@ -49,6 +54,8 @@ const GROUPS: [fn(&mut Page); 38] = [
     streams::streams,
     streams::jumps,
     streams::held,
+    streams::wraps,
+    lost::lost,
     quantizing::thresholds,
     quantizing::logarithms,
     quantizing::codewords,

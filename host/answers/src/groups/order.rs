@@ -1,6 +1,8 @@
 //! Rows that could be exchanged: for each pair of rows of a call an input with both faults, and one with all of them.
 
-use super::parts::{decode, drop, encode, octets, room, samples, unfit};
+use super::parts::{
+    decode, drop, encode, head_octets, in_edition, octets, room, samples, unfit, EDITIONS,
+};
 use crate::call::{Call, Decode, Drop, Encode};
 use crate::due::Due;
 use crate::page::Page;
@@ -10,23 +12,25 @@ use second::state::State;
 type Fault<T> = (u8, fn(&mut T));
 
 /// Faults in the order of the rules' rows, so that the first of those chosen decides.
-const ENCODE: [Fault<Encode>; 5] = [
+const ENCODE: [Fault<Encode>; 6] = [
     (4, |c| c.state = unfit(c.state.core)),
     (9, |c| c.law = 2),
+    (5, |c| c.edition = 3),
     (1, |c| c.width = 2),
     (2, |c| c.samples.truncate(12)),
     (3, |c| c.out.truncate(1)),
 ];
 
-/// The frame stays one octet too long whatever its x and g, and core 4 at width 5 is a pair.
-const DECODE: [Fault<Decode>; 8] = [
-    (4, |c| c.state = unfit(c.state.core)),
+/// The frame stays one octet too long whatever its x and g, and core 4 at width 5 is a pair. 200 is no number that the frame has.
+const DECODE: [Fault<Decode>; 9] = [
+    (4, |c| c.state.yu = 543),
     (9, |c| c.law = 255),
-    (5, |c| c.frame[0] ^= 0b1100_0000),
+    (5, |c| c.frame[0] |= 0b1100_0000),
     (1, |c| c.frame[0] = c.frame[0] & 0b1100_0111 | 0b0011_0000),
     (2, |c| c.frame[1] = 0),
     (6, |c| c.frame.push(0)),
     (7, |c| c.frame[0] = c.frame[0] & 0b1111_1000 | 4),
+    (10, |c| c.state.number = 200),
     (3, |c| c.out.clear()),
 ];
 
@@ -42,16 +46,26 @@ const DROP: [Fault<Drop>; 6] = [
 pub fn order(page: &mut Page) {
     page.group(
         "order",
-        "two faults at a time, every pair of rows of every call, and all at once",
+        "two faults at a time, every pair of rows of every call in both editions, and all at once",
     );
-    if let Call::Encode(sound) = encode(State::reset(3), 0, 5, samples(16), room(12)) {
+    for edition in EDITIONS {
+        in_edition_s_order(page, edition);
+    }
+}
+
+/// Edition 1 has no row 10.
+fn in_edition_s_order(page: &mut Page, edition: u8) {
+    let head = head_octets(edition);
+    let sound = encode(State::reset(3), 0, edition, 5, samples(16), room(head + 10));
+    if let Call::Encode(sound) = sound {
         in_pairs(page, &sound, &ENCODE, Call::Encode);
     }
-    let frame = octets(0x6B, 2, 12);
+    let frame = in_edition(edition, 0, octets(0x6B, 2, 12));
     if let Call::Decode(sound) = decode(State::reset(3), 1, frame.clone(), room(16)) {
-        in_pairs(page, &sound, &DECODE, Call::Decode);
+        let rows = DECODE.into_iter().filter(|row| edition == 2 || row.0 != 10);
+        in_pairs(page, &sound, &rows.collect::<Vec<_>>(), Call::Decode);
     }
-    if let Call::Drop(sound) = drop(frame, 4, room(10)) {
+    if let Call::Drop(sound) = drop(frame, 4, room(head + 8)) {
         in_pairs(page, &sound, &DROP, Call::Drop);
     }
 }

@@ -33,6 +33,7 @@ pub fn coefficients(page: &mut Page) {
                 page.ask(encode_fitting(
                     state,
                     (round % 2) as u8,
+                    1,
                     width,
                     random.bytes(8),
                 ));
@@ -86,6 +87,7 @@ pub fn sums(page: &mut Page) {
         page.ask(encode_fitting(
             state,
             (round % 2) as u8,
+            1,
             width,
             random.bytes(8),
         ));

@@ -58,7 +58,7 @@ fn at_normalized(page: &mut Page, law: Law, normalized: i32, place: usize) {
         for width in [5, width] {
             let state = at_scale(core, y.clamp(544, 5_120));
             let samples = pattern(octet, 0x51, 8);
-            page.ask(encode_fitting(state, law.number(), width, samples));
+            page.ask(encode_fitting(state, law.number(), 1, width, samples));
         }
     }
 }
@@ -76,6 +76,7 @@ pub fn logarithms(page: &mut Page) {
             page.ask(encode_fitting(
                 at_scale(core, y),
                 law.number(),
+                1,
                 width,
                 samples,
             ));

@@ -46,7 +46,7 @@ fn both(page: &mut Page, state: State, sound: bool) {
             Due::Refused(4)
         }
     };
-    page.due(due(7), encode(state, 0, 5, samples(8), room(7)));
+    page.due(due(7), encode(state, 0, 1, 5, samples(8), room(7)));
     let frame = octets(0x68 + state.core % 8, 1, 7);
     page.due(due(8), decode(state, 1, frame, room(8)));
 }
@@ -141,4 +141,6 @@ fn bits(page: &mut Page) {
         &[2_u8, 3, 4],
         &[0, 1, 5, 6, 7, 8, 130, 255],
     );
+    let octets = [0_u8, 1, 127, 128, 254, 255];
+    field(page, "number", |s, v| s.number = v, &octets, &[]);
 }

@@ -1,7 +1,9 @@
-//! Streams over several frames: each frame is encoded, thinned and decoded, and the widths, the laws, what is dropped and the
-//! signal change from frame to frame. Tests hold the states of both ends to each other after every frame.
+//! Streams over several frames: each frame is encoded, thinned and decoded, and the editions, the widths, the laws, what is
+//! dropped and the signal change from frame to frame. Tests hold the states of both ends to each other after every frame.
 
-use super::parts::{decode_fitting, drop, encode_fitting, frame, frame_octets};
+use super::parts::{
+    at_number, decode_fitting, drop, encode_fitting, frame, frame_octets, EDITIONS,
+};
 use crate::page::Page;
 use random::Random;
 use second::calls;
@@ -13,20 +15,23 @@ struct Sending {
     state: State,
     law_in: u8,
     law_out: u8,
+    edition: u8,
     width: u8,
     kept: u8,
 }
 
 /// The three lines of one frame, and the state behind it.
 fn send(page: &mut Page, s: &Sending, samples: Vec<u8>) -> State {
-    let mut sent = vec![0; frame_octets(s.width, samples.len())];
-    let next = calls::encode(s.state, s.law_in, s.width, &samples, &mut sent).state;
-    let mut thin = vec![0xEE; frame_octets(s.kept, samples.len())];
-    page.ask(encode_fitting(s.state, s.law_in, s.width, samples));
+    let mut sent = vec![0; frame_octets(s.edition, s.width, samples.len())];
+    let coded = calls::encode(s.state, s.law_in, s.edition, s.width, &samples, &mut sent);
+    let mut thin = vec![0xEE; frame_octets(s.edition, s.kept, samples.len())];
+    page.ask(encode_fitting(
+        s.state, s.law_in, s.edition, s.width, samples,
+    ));
     page.ask(drop(sent.clone(), s.kept, thin.clone()));
     calls::drop_planes(&sent, s.kept, &mut thin);
     page.ask(decode_fitting(s.state, s.law_out, thin));
-    next
+    coded.state
 }
 
 const SEED: u64 = 10;
@@ -58,6 +63,7 @@ fn one_frame(page: &mut Page, random: &mut Random, state: State) -> State {
         state,
         law_in,
         law_out: random.below(2) as u8,
+        edition: random.pick(&EDITIONS),
         width: width as u8,
         kept: kept as u8,
     };
@@ -107,12 +113,39 @@ pub fn jumps(page: &mut Page) {
                         state,
                         law_in: law.number(),
                         law_out: law.number(),
+                        edition: 1,
                         width: 5,
                         kept: core,
                     };
                     state = send(page, &sending, samples);
                 }
             }
+        }
+    }
+}
+
+/// Edition 1 among them, which the number stays at.
+const ABOUT_THE_WRAP: [u8; 8] = [2, 2, 1, 2, 2, 1, 2, 2];
+
+pub fn wraps(page: &mut Page) {
+    page.group(
+        "wraps",
+        "at every core from the number 253 on, frames of both editions, each dropped to another width; drawn from seed 15",
+    );
+    let mut random = Random::new(15);
+    for core in 2..=4 {
+        let mut state = at_number(core, 253);
+        for (edition, turn) in ABOUT_THE_WRAP.into_iter().zip(0..) {
+            let sending = Sending {
+                state,
+                law_in: turn % 2,
+                law_out: turn / 2 % 2,
+                edition,
+                width: 5,
+                kept: core + turn % (6 - core),
+            };
+            let samples = signal(&mut random, turn % 2, 8);
+            state = send(page, &sending, samples);
         }
     }
 }

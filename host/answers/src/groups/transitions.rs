@@ -104,9 +104,7 @@ fn without_tone(page: &mut Page) {
             decoded(page, state, (1 << (core - 1)) - 1);
         }
     }
-    page.note(
-        "01's scope of E1: TD 1, YL 262144, YU 5120, AP 512, core 4, codeword 7 gives AP 256",
-    );
+    page.note("TD 1, YL 262144, YU 5120, AP 512, core 4, codeword 7 gives AP 256");
     let state = State {
         yl: 262_144,
         td: 1,

@@ -1,6 +1,6 @@
 //! The rules' worked examples: frames written and thinned, the twelve first bytes at every core, levels.
 
-use super::parts::{decode_fitting, drop, encode_fitting, frame, room};
+use super::parts::{decode_fitting, drop, encode_fitting, frame, in_edition, room, EDITIONS};
 use crate::call::Call;
 use crate::due::Due;
 use crate::page::Page;
@@ -14,19 +14,11 @@ const ONE: [u8; 7] = [0x6A, 0x01, 0x00, 0x00, 0x00, 0x00, 0x80];
 pub fn frames(page: &mut Page) {
     page.group(
         "frames",
-        "01's worked frames, written from octets, thinned, copied and read",
+        "the rules' worked frames in both editions, written from octets, thinned, copied and read",
     );
-    for (codewords, written) in [([16; 8], EIGHT), ([1, 0, 0, 0, 0, 0, 0, 0], ONE)] {
-        let octets = octets_for(State::reset(2), &codewords);
-        page.due(
-            Due::Out(written.to_vec()),
-            encode_fitting(State::reset(2), 0, 5, octets),
-        );
-        page.ask(decode_fitting(State::reset(2), 0, written.to_vec()));
-        for width in 2..=5 {
-            let thin: Vec<u8> = codewords.iter().map(|c| c >> (5 - width)).collect();
-            let due = Due::Out(frame(width, 2, &thin));
-            page.due(due, drop(written.to_vec(), width, room(9)));
+    for edition in EDITIONS {
+        for (codewords, written) in [([16; 8], EIGHT), ([1, 0, 0, 0, 0, 0, 0, 0], ONE)] {
+            one_worked(page, edition, &codewords, &written);
         }
     }
     let thinned = |to: &[u8]| Due::Out(to.to_vec());
@@ -38,6 +30,27 @@ pub fn frames(page: &mut Page) {
         thinned(&[0x62, 1, 0, 0, 0, 0]),
         drop(ONE.to_vec(), 4, room(6)),
     );
+    let numbered = [0xAA, 1, 0xA5, 0xFF, 0, 0, 0, 0];
+    page.due(
+        thinned(&[0x92, 1, 0xA5, 0xFF, 0]),
+        drop(numbered.to_vec(), 2, room(5)),
+    );
+}
+
+/// From reset, so that the number in edition 2 is 0.
+fn one_worked(page: &mut Page, edition: u8, codewords: &[u8], written: &[u8]) {
+    let written = in_edition(edition, 0, written.to_vec());
+    let octets = octets_for(State::reset(2), codewords);
+    page.due(
+        Due::Out(written.clone()),
+        encode_fitting(State::reset(2), 0, edition, 5, octets),
+    );
+    page.ask(decode_fitting(State::reset(2), 0, written.clone()));
+    for width in 2..=5 {
+        let thin: Vec<u8> = codewords.iter().map(|c| c >> (5 - width)).collect();
+        let due = in_edition(edition, 0, frame(width, 2, &thin));
+        page.due(Due::Out(due), drop(written.clone(), width, room(9)));
+    }
 }
 
 /// Octets of mu-law that give these codewords at width 5.
@@ -71,11 +84,11 @@ const FIRST: [(u8, u8, u8); 12] = [
 pub fn first_bytes(page: &mut Page) {
     page.group(
         "first-bytes",
-        "01's twelve first bytes at every core, eight times each",
+        "the rules' twelve first bytes at every core, eight times each",
     );
     for core in 2..=4 {
         for (law, octet, codeword) in FIRST {
-            let call = encode_fitting(State::reset(core), law, 5, vec![octet; 8]);
+            let call = encode_fitting(State::reset(core), law, 1, 5, vec![octet; 8]);
             page.due(Due::First(codeword), call);
         }
     }

@@ -1,10 +1,10 @@
-//! Names that could be mistaken for each other: A1 and A2, SE and SEZ, the fields of a pair.
+//! Names that could be mistaken for each other: A1 and A2, SE and SEZ, both editions, the fields of a pair.
 
 use super::{replaced, Edit};
 use crate::scanner::Kind;
 use crate::source::Source;
 
-const PAIRS: [(&str, &str); 7] = [
+const PAIRS: [(&str, &str); 9] = [
     ("true", "false"),
     ("min", "max"),
     ("wrapping_add", "wrapping_sub"),
@@ -12,6 +12,8 @@ const PAIRS: [(&str, &str); 7] = [
     ("dms", "dml"),
     ("dmsp", "dmlp"),
     ("one_up", "one_down"),
+    ("PLAIN", "NUMBERED"),
+    ("core", "number"),
 ];
 
 pub fn edits(source: &Source, place: usize) -> Vec<Edit> {
