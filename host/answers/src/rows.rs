@@ -28,7 +28,7 @@ fn of_encode(c: &Encode) -> Vec<Row> {
     rows.extend([
         (5, !is_edition(c.edition)),
         (1, !PAIRS.contains(&(c.width, c.state.core))),
-        (2, count % 8 != 0 || !(8..=320).contains(&count)),
+        (2, !count.is_multiple_of(8) || !(8..=320).contains(&count)),
         (3, c.out.len() < octets),
     ]);
     rows

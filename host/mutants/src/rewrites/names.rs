@@ -1,10 +1,11 @@
-//! Names that could be mistaken for each other: A1 and A2, SE and SEZ, both editions, the fields of a pair.
+//! Names that could be mistaken for each other: A1 and A2, SE and SEZ, both editions, a state's core and number, the fields of
+//! a pair.
 
 use super::{replaced, Edit};
 use crate::scanner::Kind;
 use crate::source::Source;
 
-const PAIRS: [(&str, &str); 9] = [
+const PAIRS: [(&str, &str); 8] = [
     ("true", "false"),
     ("min", "max"),
     ("wrapping_add", "wrapping_sub"),
@@ -13,7 +14,6 @@ const PAIRS: [(&str, &str); 9] = [
     ("dmsp", "dmlp"),
     ("one_up", "one_down"),
     ("PLAIN", "NUMBERED"),
-    ("core", "number"),
 ];
 
 pub fn edits(source: &Source, place: usize) -> Vec<Edit> {
@@ -22,7 +22,9 @@ pub fn edits(source: &Source, place: usize) -> Vec<Edit> {
     }
     let word = source.word(place);
     let other = if source.is(place, Kind::Word) {
-        partner(word).or_else(|| neighbour(source, word))
+        partner(word)
+            .or_else(|| neighbour(source, word))
+            .or_else(|| of_state(source, place))
     } else if source.before(place) == "." {
         exchanged(word, "0", "1")
     } else {
@@ -49,6 +51,13 @@ fn neighbour(source: &Source, word: &str) -> Option<String> {
     let other = exchanged(word, &format!("{stem}1"), &format!("{stem}2"))?;
     let is_known = (0..source.count()).any(|place| source.word(place) == other);
     is_known.then_some(other)
+}
+
+/// Elsewhere these two names are those of things of unlike types.
+fn of_state(source: &Source, place: usize) -> Option<String> {
+    let whose = source.before(place.wrapping_sub(1));
+    let is_field = source.before(place) == "." && ["state", "last"].contains(&whose);
+    exchanged(source.word(place), "core", "number").filter(|_| is_field)
 }
 
 /// A field that is given its value: exchanged, it would be given twice. One word alone between braces
@@ -85,6 +94,15 @@ mod tests {
     fn fields_of_a_pair_are_exchanged() {
         assert_eq!(made(edits, "f(a.0, a.1)"), ["f(a.1, a.1)", "f(a.0, a.0)"]);
         assert_eq!(made(edits, "f(0, 1)"), [""; 0]);
+    }
+
+    #[test]
+    fn core_and_number_of_a_state_are_exchanged() {
+        assert_eq!(
+            made(edits, "f(state.core, last.number)"),
+            ["f(state.number, last.number)", "f(state.core, last.core)"]
+        );
+        assert_eq!(made(edits, "f(header.core, number, core)"), [""; 0]);
     }
 
     #[test]
