@@ -98,19 +98,22 @@ fn answer_reset(number: u64, line: &[u8]) {
 }
 
 fn answer_encode(number: u64, line: &[u8]) {
-    if !fits(number, line, b"snnxx") {
+    if !fits(number, line, b"snnnxx") {
         return;
     }
     let mut samples = io::large_buffer();
     let mut out = io::large_buffer();
-    let n = octets_in(part(line, 4, b' '), &mut samples);
-    let room = octets_in(part(line, 5, b' '), &mut out);
+    let n = octets_in(part(line, 5, b' '), &mut samples);
+    let room = octets_in(part(line, 6, b' '), &mut out);
     encode_line(line, &samples[..n], &mut out[..room]);
 }
 
 fn encode_line(line: &[u8], samples: &[u8], out: &mut [u8]) {
     let s = state_in(part(line, 1, b' '));
-    let r = encode(s, octet_at(line, 2), octet_at(line, 3), samples, out);
+    let law = octet_at(line, 2);
+    let edition = octet_at(line, 3);
+    let width = octet_at(line, 4);
+    let r = encode(s, law, edition, width, samples, out);
     let reply = r.reply;
     let next = r.state;
     say_reply(reply, r.octets);

@@ -3,6 +3,7 @@ ghost use Prim.Native.Nat.{_≤_};
 use crate::fields::has_part;
 use crate::fields::number_in;
 use crate::fields::part;
+use crate::readers::octet_at;
 use state::State;
 use state::memory::Memory;
 use state::numbers::NUMBERS;
@@ -22,7 +23,7 @@ pub fn is_state(field: &[u8]) -> bool {
 fn greatest(k: usize) -> u64 {
     match k {
         1 => 4294967295,
-        24 => 255,
+        24 | 25 => 255,
         _ => 65535,
     }
 }
@@ -48,7 +49,8 @@ pub fn state_in(field: &[u8]) -> State {
     };
     State {
         memory,
-        core: (number_in(part(field, 24, b',')) % 256) as u8,
+        core: octet_at(field, 24),
+        number: octet_at(field, 25),
     }
 }
 

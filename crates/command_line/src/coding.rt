@@ -1,4 +1,4 @@
-// The words of encode and decode: LAW WIDTH CORE [SAMPLES], and LAW; of sequences both have LAW WIDTH CORE.
+// The words of encode and decode: LAW WIDTH CORE [SAMPLES [EDITION]], and LAW; of sequences both have LAW WIDTH CORE.
 use crate::kinds::law_at;
 use crate::kinds::number;
 use crate::program::Program;
@@ -7,8 +7,9 @@ use crate::words::number_at;
 use crate::words::octet_of;
 use crate::wrong::wrong;
 use crate::wrong::wrong_pair;
-use frame::header::EDITION;
+use frame::header::PLAIN;
 use frame::header::is_count;
+use frame::header::is_edition;
 use quantizer::pair::is_pair;
 
 // What they ask, and the place behind them
@@ -19,6 +20,7 @@ pub struct Coding {
     pub width: u8,
     pub core: u8,
     pub samples: usize,
+    pub edition: u8,
 }
 
 // Beside it every width is a pair's.
@@ -39,6 +41,7 @@ pub fn usual() -> Coding {
         width: 0,
         core: LEAST_CORE,
         samples: USUAL_SAMPLES,
+        edition: PLAIN,
     }
 }
 
@@ -81,7 +84,7 @@ pub fn read_pair(program: Program, at: usize) -> Coding {
     }
 }
 
-// With SAMPLES, where a number is next
+// With SAMPLES and EDITION, where numbers are next
 pub fn read_encode(at: usize) -> Coding {
     let coding = read_pair(Program::Parchfennel, at);
     if !coding.good {
@@ -90,19 +93,39 @@ pub fn read_encode(at: usize) -> Coding {
     with_samples(coding)
 }
 
+// The count is told before the edition behind it is looked at, and both editions take the same counts.
 fn with_samples(coding: Coding) -> Coding {
     let at = coding.at;
     let count = number_at(at);
     if !count.good {
         return coding;
     }
-    if !is_count(EDITION, count.value) {
+    if !is_count(coding.edition, count.value) {
         wrong(Program::Parchfennel, b"no count of samples: ", at);
+        return usual();
+    }
+    let counted = Coding {
+        at: after(at),
+        samples: count.value,
+        ..coding
+    };
+    with_edition(counted)
+}
+
+fn with_edition(coding: Coding) -> Coding {
+    let at = coding.at;
+    let asked = number_at(at);
+    if !asked.good {
+        return coding;
+    }
+    let edition = octet_of(asked.value);
+    if !is_edition(edition) {
+        wrong(Program::Parchfennel, b"no edition: ", at);
         return usual();
     }
     Coding {
         at: after(at),
-        samples: count.value,
+        edition,
         ..coding
     }
 }

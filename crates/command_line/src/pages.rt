@@ -44,7 +44,7 @@ fn written_page(program: Program, help: bool) -> bool {
         return write_help(program);
     }
     let line = named(program).text(
-        b" 0.3.0
+        b" 0.4.0
 proved with rattle-kit-5b logic 064da1ca440f63e7
 ",
     );
@@ -67,7 +67,8 @@ Speech in G.711 (64 kbit/s) becomes frames of 40, 32, 24 or 16 kbit/s, and frame
 become speech. The lower bits of a frame may be thrown away on the way, and the
 decoder still follows the encoder: the core bits alone decide its state.
 
-  parchfennel encode LAW WIDTH CORE [SAMPLES]   speech in, frames out
+  parchfennel encode LAW WIDTH CORE [SAMPLES [EDITION]]
+                                                speech in, frames out
   parchfennel drop WIDTH                        frames in, frames of WIDTH out;
                                                 one that cannot be is refused
   parchfennel drop -most WIDTH                  frames of WIDTH at most, and not
@@ -75,13 +76,17 @@ decoder still follows the encoder: the core bits alone decide its state.
   parchfennel drop [-most] -list FILE           a width for each frame from FILE,
                                                 over and over
   parchfennel decode LAW                        frames in, speech out
-  parchfennel inspect                           frames in, a table and totals out
+  parchfennel inspect                           frames in, a table and totals out;
+                                                the number is - in edition 1
 
   LAW       mu or a
   WIDTH     bits a sample, 2 to 5, each of them 8 kbit/s
   CORE      bits of these that are never dropped, 2 to 4
   SAMPLES   samples in a frame, a multiple of 8 from 8 to 320 (160, which is
             20 ms, where it is not given)
+  EDITION   1 (where it is not given) or 2. In edition 2 a frame has a number, and
+            where one was lost decode refuses the next with 10 and ends; in
+            edition 1 it does not notice, and its state is not the encoder's
 
 They read standard input and write standard output. Two more words, IN and OUT,
 name files instead; - is the standard one. A file whose name is digits only, or
@@ -150,13 +155,13 @@ pub fn with_usage(program: Program, line: Line) -> Line {
 
 fn with_usage_of_parchfennel(line: Line) -> Line {
     line.text(
-        b"called as: parchfennel [-v] [-states FILE] encode LAW WIDTH CORE [SAMPLES] [IN [OUT]]
+        b"called as: parchfennel [-v] [-states FILE] encode LAW WIDTH CORE [SAMPLES [EDITION]] [IN [OUT]]
            parchfennel drop [-most] WIDTH [IN [OUT]]
            parchfennel drop [-most] -list FILE [IN [OUT]]
            parchfennel [-v] [-states FILE] decode LAW [IN [OUT]]
            parchfennel inspect [IN [OUT]]
            parchfennel --help | --version
-LAW is mu or a; WIDTH is 2 to 5; CORE is 2 to 4, not above WIDTH; SAMPLES is a multiple of 8, 8 to 320
+LAW is mu or a; WIDTH is 2 to 5; CORE is 2 to 4, not above WIDTH; SAMPLES is a multiple of 8, 8 to 320; EDITION is 1 or 2
 ",
     )
 }

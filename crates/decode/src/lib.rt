@@ -75,10 +75,12 @@ fn decode_reply(s: State, law: u8, h: Header, length: usize, room: usize) -> Rep
     if !is_done(reply) {
         return reply;
     }
-    if h.core != s.core {
+    let same_core = h.core == s.core;
+    let due = is_due(h, s.number);
+    if !same_core {
         return Reply::Core;
     }
-    if !is_due(h, s.number) {
+    if !due {
         return Reply::Number;
     }
     if room < sample_count(h) {

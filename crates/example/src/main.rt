@@ -17,10 +17,10 @@ fn main() {
 
 fn send(near: State, far: State) {
     let speech = [0x7f; 160];
-    let mut radio = [0; 102];
-    let mut thin = [0; 62];
+    let mut radio = [0; 103];
+    let mut thin = [0; 63];
     let mut sound = [0; 160];
-    let sent = encode(near, 0, 5, &speech, &mut radio); // mu-law in, 40 kbit/s
+    let sent = encode(near, 0, 2, 5, &speech, &mut radio); // mu-law in, a numbered frame, 40 kbit/s
     let n = sent.octets;
     let kept = drop_planes(&radio[..n], 3, &mut thin); // two planes thrown away: 24 kbit/s
     let m = kept.octets;

@@ -9,7 +9,14 @@ use state::State;
 
 pub fn encoded(coding: Coding, s: State, samples: &[u8]) -> Made {
     let mut out = io::buffer();
-    let answer = encode(s, coding.law, coding.width, samples, &mut out);
+    let answer = encode(
+        s,
+        coding.law,
+        coding.edition,
+        coding.width,
+        samples,
+        &mut out,
+    );
     let reply = answer.reply;
     let state = answer.state;
     answered(reply, out, answer.octets, state)

@@ -1,7 +1,9 @@
 // inspect: a heading, a line for each frame, and totals.
 use crate::work::Made;
 use crate::work::Turn;
+use frame::header::Header;
 use frame::header::frame_reply;
+use frame::header::is_numbered;
 use frame::header::read_header;
 use state::State;
 use text::Line;
@@ -10,18 +12,19 @@ use text::Line;
 const MOST: u64 = 1 << 48;
 
 pub fn heading() -> Line {
-    Line::empty().text(b"frame edition x y g octets\n")
+    Line::empty().text(b"frame edition x y g number octets\n")
 }
 
 pub fn inspected(frame: u64, s: State, octets: &[u8]) -> Made {
     let header = read_header(octets);
     let reply = frame_reply(header, octets.len());
-    let line = Line::empty()
+    let fields = Line::empty()
         .number(frame)
         .next(header.edition as u64)
         .next(header.width as u64)
         .next(header.core as u64)
-        .next(header.groups as u64)
+        .next(header.groups as u64);
+    let line = with_number(fields, header)
         .next(octets.len() as u64)
         .octet(b'\n');
     Made {
@@ -29,6 +32,14 @@ pub fn inspected(frame: u64, s: State, octets: &[u8]) -> Made {
         octets: line,
         state: s,
     }
+}
+
+// A dash where frames of the edition bear none
+fn with_number(line: Line, header: Header) -> Line {
+    if is_numbered(header.edition) {
+        return line.next(header.number as u64);
+    }
+    line.text(b" -")
 }
 
 pub fn totals(turn: Turn) -> Line {

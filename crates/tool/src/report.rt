@@ -17,10 +17,25 @@ fn placed(kind: &[u8], frame: u64, octet: u64) -> Line {
         .text(b": ")
 }
 
-// A reply other than 0: which frame, where it begins in the stream, and the row of the table of replies
+fn refused(frame: u64, octet: u64) -> Line {
+    placed(b"", frame, octet).text(b"refused with ")
+}
+
+// A frame that bears another number than the due one: both are said
+pub fn refuse_number(frame: u64, octet: u64, found: u8, due: u8) {
+    refused(frame, octet)
+        .number(number_of(Reply::Number) as u64)
+        .text(b": number ")
+        .number(found as u64)
+        .text(b" where ")
+        .number(due as u64)
+        .text(b" was due\n")
+        .write(STDERR_FILENO);
+}
+
+// Any other reply than 0: the row of the table of replies
 pub fn refuse(frame: u64, octet: u64, reply: Reply) {
-    placed(b"", frame, octet)
-        .text(b"refused with ")
+    refused(frame, octet)
         .row(
             number_of(reply),
             b"0: done\n\
@@ -28,8 +43,8 @@ pub fn refuse(frame: u64, octet: u64, reply: Reply) {
             2: sample count not a multiple of 8 from 8 to 320, or g not 1 to 40\n\
             3: out buffer shorter than the result\n\
             4: a state variable outside its range\n\
-            5: fewer than 2 octets, or edition not 01\n\
-            6: length not 2 + x times g\n\
+            5: fewer than 2 octets, or edition neither 01 nor 10\n\
+            6: length not 2 + x times g in edition 1, 3 + x times g in edition 2\n\
             7: frame's core differs from the state's\n\
             8: target width below y or above x\n\
             9: law not 0 (mu) or 1 (A)\n",

@@ -8,7 +8,7 @@ pub fn begin(fd: i32) -> bool {
     put(
         fd,
         Line::empty().text(
-            b"frame YU YL DMS DML AP A1 A2 B1 B2 B3 B4 B5 B6 DQ1 DQ2 DQ3 DQ4 DQ5 DQ6 SR1 SR2 PK1 PK2 TD core\n",
+            b"frame YU YL DMS DML AP A1 A2 B1 B2 B3 B4 B5 B6 DQ1 DQ2 DQ3 DQ4 DQ5 DQ6 SR1 SR2 PK1 PK2 TD core number\n",
         ),
     )
 }

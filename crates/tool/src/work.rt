@@ -11,6 +11,7 @@ use crate::inspecting;
 use crate::inspecting::inspected;
 use crate::list::read_list;
 use crate::report::refuse;
+use crate::report::refuse_number;
 use crate::states;
 use crate::stream::next_piece;
 use command_line::Command;
@@ -114,7 +115,7 @@ fn next(task: Task, files: Files, widths: &[u8], turn: Turn) -> Turn {
     let made = make(task, widths, turn, &piece[..n]);
     let reply = made.reply;
     if !is_done(reply) {
-        refuse(turn.frame, turn.octet, reply);
+        say_refused(turn, made, &piece[..n]);
         return stopped(turn, false);
     }
     if !put(task, files, turn.frame, made) {
@@ -122,6 +123,17 @@ fn next(task: Task, files: Files, widths: &[u8], turn: Turn) -> Turn {
     }
     let state = made.state;
     passed(turn, state, &piece[..n])
+}
+
+// A refused call hands back the state that it met, so the due number is there.
+fn say_refused(turn: Turn, made: Made, piece: &[u8]) {
+    let reply = made.reply;
+    let state = made.state;
+    let header = read_header(piece);
+    match reply {
+        Reply::Number => refuse_number(turn.frame, turn.octet, header.number, state.number),
+        _ => refuse(turn.frame, turn.octet, reply),
+    }
 }
 
 // The input has ended, or is at fault

@@ -3,20 +3,18 @@
 use mathlib.Core.Bool.{true}
 use mathlib.Core.List.{List, [], _∷_}
 use mathlib.Core.Path.{_≡_, refl, _∙_}
-use Prim.Native.Nat.{ℕ}
 use native.Mathlib.Omega.{arith}
-use lib.ListN.{length, getD}
 use borrow.Author.Tests.{eq-eqb}
 use Rattle.words.proofs.Within.{within-says}
-use Rattle.lists.specs.Run.{last, total}
+use Rattle.lists.specs.Run.{total}
 use Rattle.state.specs.declared.State.{State}
 use Rattle.state.specs.Reset.{resetOf}
 use Rattle.state.specs.InRange.{InRange}
 use Rattle.state.proofs.Ranges.{reset-in-range}
 use Rattle.frame.specs.Header.{numbered, isNumbered, headerLength}
-use Rattle.tracking.specs.Calls.{Sending, Hearing, written, encoderAfter, arrived}
+use Rattle.tracking.specs.Calls.{Sending, written, encoderAfter}
 use Rattle.tracking.specs.Stream.{Transfer, heard, FitSending, Fit}
-use Rattle.tracking.specs.History.{writes, numberedFrames, accepts, accepted, afterAll, Brings, Behind, Refused}
+use Rattle.tracking.specs.History.{writes, numberedFrames, accepted, afterAll, Behind, Refused}
 use Rattle.tracking.proofs.Fit.{sends, after-in-range, after-core, transfer-fits}
 use Rattle.tracking.proofs.Histories.{written-bears, arrived-bears}
 use Rattle.tracking.proofs.Losses.{after-a-loss}

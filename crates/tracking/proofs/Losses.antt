@@ -3,7 +3,7 @@
 use mathlib.Core.Bool.{true, false}
 use mathlib.Core.List.{List, [], _∷_}
 use mathlib.Core.Path.{_≡_, refl, sym, ap, _∙_}
-use Prim.Native.Nat.{ℕ, zero, suc, _%_, _^_, _≤_, _<_}
+use Prim.Native.Nat.{ℕ, suc, _%_, _^_, _≤_, _<_}
 use native.Mathlib.Omega.{arith}
 use lib.Dec.{eqb}
 use lib.ListN.{length, getD}
@@ -20,17 +20,16 @@ use Rattle.state.specs.InRange.{MemoryInRange, InRange}
 use Rattle.state.proofs.Ranges.{range-of, reset-in-range}
 use Rattle.sample.specs.Decode.{decoderNext}
 use Rattle.sample.proofs.Tracks.{decode-in-range}
-use Rattle.frame.specs.Header.{headerOf, isNumbered, sampleCount, isDue}
+use Rattle.frame.specs.Header.{headerOf, sampleCount, isDue}
 use Rattle.frame.specs.Read.{body, received}
 use Rattle.frame.specs.Sound.{Sound}
 use Rattle.frame.proofs.Codewords.{read-length, read-short}
 use Rattle.frame.proofs.Sounds.{sound-none}
 use Rattle.decode.specs.Codewords.{decodedMemory, decodedState}
 use Rattle.decode.specs.Decode.{decodeReply, decodeOctets, decodeMoved, decodeState, decodeOut}
-use Rattle.decode.specs.Inner.{Decodable}
 use Rattle.decode.proofs.Fitness.{decode-says, decode-of, decode-behind}
 use Rattle.tracking.specs.Calls.{Sending, Hearing, hearReply, decoderAfter}
-use Rattle.tracking.specs.History.{numberedFrames, isNumberedFrame, accepts, accepted, afterAll, Brings, Behind, AllBehind, Refused, AllRefused}
+use Rattle.tracking.specs.History.{numberedFrames, isNumberedFrame, accepted, afterAll, Brings, AllBehind, Refused, AllRefused}
 use Rattle.tracking.proofs.Numbers.{hearer-core, hearer-number, hearer-counts}
 use Rattle.tracking.proofs.Histories.{Bearing, bearing-same, brought-bears}
 
@@ -49,11 +48,11 @@ hearer-in-range t d i =
     let size = read-length (h .width) (h .groups) (body (d .frame)) in
     by-pick InRange (eqb (hearReply t d) 0) (decodedState t h (received (d .frame))) t
     (λ done.
-      let k = decode-says t (d .law) h (length (d .frame)) (length (d .buffer)) (eqb-true (hearReply t d) 0 done) .1 in
-      record {
-        memory = run-in-range (rw (k .core) at (k .sound .header .pair)) (t .memory) (i .memory) (received (d .frame)) (λ j there. read-short (h .width) (h .groups) (body (d .frame)) j (rw size at there));
-        cores = i .cores;
-      })
+    let k = decode-says t (d .law) h (length (d .frame)) (length (d .buffer)) (eqb-true (hearReply t d) 0 done) .1 in
+    record {
+      memory = run-in-range (rw (k .core) at (k .sound .header .pair)) (t .memory) (i .memory) (received (d .frame)) (λ j there. read-short (h .width) (h .groups) (body (d .frame)) j (rw size at there));
+      cores = i .cores;
+    })
     (λ refused. i)
 
 -- after any frames whatever: the state is in range, and its core is the one it began with

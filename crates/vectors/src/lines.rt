@@ -8,6 +8,7 @@ use checksum::of_state;
 use libc::STDOUT_FILENO;
 use sample::pcm::Played;
 use state::State;
+use state::memory::Memory;
 use state::moved_on;
 use state::numbers::same_state;
 use state::reset;
@@ -47,7 +48,7 @@ fn summed(line: Line, kind: Kind, core: u8, t: Track) -> Line {
 // An I-input and the held codeword have no encoder beside the decoder
 fn do_ends_differ(kind: Kind, core: u8, t: Track) -> bool {
     let memory = t.encoder;
-    let encoder = moved_on(reset(core), memory, 0);
+    let encoder = state_of(core, memory);
     match kind {
         Kind::Normal | Kind::Overload | Kind::Jump => !same_state(encoder, decoder_of(core, t)),
         Kind::Codewords | Kind::Held => false,
@@ -56,6 +57,11 @@ fn do_ends_differ(kind: Kind, core: u8, t: Track) -> bool {
 
 fn decoder_of(core: u8, t: Track) -> State {
     let memory = t.decoder;
+    state_of(core, memory)
+}
+
+// A sequence has no frames, so no number was moved on.
+fn state_of(core: u8, memory: Memory) -> State {
     moved_on(reset(core), memory, 0)
 }
 
@@ -83,5 +89,5 @@ fn answered(line: Line, core: u8, codeword: u8, p: Played) -> Line {
     line.next(codeword as u64)
         .next(byte)
         .next(moved)
-        .next(of_state(moved_on(reset(core), memory, 0)) as u64)
+        .next(of_state(state_of(core, memory)) as u64)
 }

@@ -3,7 +3,7 @@
 use filter::line::Line;
 use filter::pair::{law, octet, pair};
 use filter::words::{number, wrong, Word, Words};
-use second::frame::is_sample_count;
+use second::frame::{is_edition, is_sample_count, PLAIN};
 use second::g711::Law;
 use second::replies::{NARROWEST_CORE, WIDEST};
 
@@ -31,6 +31,7 @@ pub struct Plan {
     pub width: u8,
     pub core: u8,
     pub samples: usize,
+    pub edition: u8,
 }
 
 #[derive(Debug, PartialEq, Eq)]
@@ -89,11 +90,13 @@ fn encode(words: &mut Words) -> Result<Plan, Line> {
     let law = law(words)?;
     let (width, core) = pair(words)?;
     let samples = words.take_digits().map_or(Ok(SAMPLES), samples)?;
+    let edition = words.take_digits().map_or(Ok(PLAIN), edition)?;
     Ok(Plan {
         law,
         width,
         core,
         samples,
+        edition,
     })
 }
 
@@ -104,6 +107,13 @@ fn samples(word: &Word) -> Result<usize, Line> {
     } else {
         Err(wrong("no count of samples", word))
     }
+}
+
+fn edition(word: &Word) -> Result<u8, Line> {
+    let edition = u8::try_from(number(word)?).ok();
+    edition
+        .filter(|&edition| is_edition(edition))
+        .ok_or_else(|| wrong("no edition", word))
 }
 
 fn drop(words: &mut Words) -> Result<Command, Line> {
@@ -153,12 +163,13 @@ mod tests {
         parse(&words, job).map_err(|line| String::from_utf8_lossy(&line).into_owned())
     }
 
-    fn plan(samples: usize) -> Plan {
+    fn plan(samples: usize, edition: u8) -> Plan {
         Plan {
             law: Law::A,
             width: 5,
             core: 2,
             samples,
+            edition,
         }
     }
 
@@ -167,7 +178,7 @@ mod tests {
         let expected = Job {
             verbose: true,
             states: Some("s".into()),
-            command: Command::Encode(plan(160)),
+            command: Command::Encode(plan(160, 1)),
             input: None,
             output: Some("f".into()),
         };
@@ -176,17 +187,22 @@ mod tests {
     }
 
     #[test]
-    fn samples_are_told_from_a_file() {
-        for (words, samples, input) in [
-            ("encode a 5 2", 160, None),
-            ("encode a 5 2 008", 8, None),
-            ("encode a 5 2 8x", 160, Some("8x".into())),
-            ("encode a 5 2 8 ./8", 8, Some("./8".into())),
+    fn samples_and_edition_are_told_from_a_file() {
+        for (words, (samples, edition), input) in [
+            ("encode a 5 2", (160, 1), None),
+            ("encode a 5 2 008", (8, 1), None),
+            ("encode a 5 2 8 002", (8, 2), None),
+            ("encode a 5 2 8 1", (8, 1), None),
+            ("encode a 5 2 8x", (160, 1), Some("8x".into())),
+            ("encode a 5 2 8 2x", (8, 1), Some("2x".into())),
+            ("encode a 5 2 8 ./2", (8, 1), Some("./2".into())),
+            ("encode a 5 2 8 2 ./2", (8, 2), Some("./2".into())),
         ] {
             let Ok(Call::Job(job)) = read(words) else {
                 panic!("{words} is wrong");
             };
-            assert_eq!(job.command, Command::Encode(plan(samples)), "{words}");
+            let expected = Command::Encode(plan(samples, edition));
+            assert_eq!(job.command, expected, "{words}");
             assert_eq!(job.input, input, "{words}");
         }
     }
@@ -208,6 +224,10 @@ mod tests {
             ("encode u 5 x", "no law: 'u'"),
             ("encode mu 9 x", "not a number: 'x'"),
             ("encode mu 9 2 7", "no pair of WIDTH and CORE: '9 2'"),
+            ("encode mu 5 2 2", "no count of samples: '2'"),
+            ("encode mu 5 2 12 3", "no count of samples: '12'"),
+            ("encode mu 5 2 160 0", "no edition: '0'"),
+            ("encode mu 5 2 160 258 8", "no edition: '258'"),
             ("-v -v decode mu", "unknown word: '-v'"),
             ("-v --help", "unknown word: '--help'"),
             ("--help --version", "unknown word: '--version'"),
@@ -236,7 +256,8 @@ mod tests {
             ("drop -list w -list", "-list"),
             ("drop -list -", "-"),
             ("-states - decode mu", "-"),
-            ("encode mu 5 2 160 8", "8"),
+            ("encode mu 5 2 160 2 8", "8"),
+            ("encode mu 5 2 160 -2", "-2"),
         ] {
             assert_eq!(read(words), Err(format!("{what}: '{wrong}'")), "{words}");
         }

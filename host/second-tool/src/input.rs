@@ -22,20 +22,22 @@ pub fn frame(input: &mut Source, place: Place) -> Result<Vec<u8>, Stop> {
     Ok(frame)
 }
 
-pub fn header(first: u8, groups: u8) -> Header {
-    Header {
+/// The header of a whole frame.
+pub fn header(frame: &[u8], place: Place) -> Result<Header, Stop> {
+    frame::read_header(frame).map_err(|number| place.refused(number))
+}
+
+/// The length of the frame whose header begins so.
+fn due(first: u8, groups: u8) -> Result<usize, u8> {
+    let beginning = Header {
         edition: first >> 6,
         width: first >> 3 & 7,
         core: first & 7,
         groups: usize::from(groups),
         number: None,
-    }
-}
-
-/// The length of the frame with this header.
-fn due(first: u8, groups: u8) -> Result<usize, u8> {
+    };
     match frame::read_header(&[first, groups]) {
         Err(number) if number != replies::WRONG_LENGTH => Err(number),
-        _ => Ok(header(first, groups).octets()),
+        _ => Ok(beginning.octets()),
     }
 }

@@ -11,7 +11,7 @@ use filter::words::Word;
 use second::state::State;
 
 const STATES: &str = "frame YU YL DMS DML AP A1 A2 B1 B2 B3 B4 B5 B6 \
-                      DQ1 DQ2 DQ3 DQ4 DQ5 DQ6 SR1 SR2 PK1 PK2 TD core\n";
+                      DQ1 DQ2 DQ3 DQ4 DQ5 DQ6 SR1 SR2 PK1 PK2 TD core number\n";
 
 /// Does it, and hands back a line for each thing that went wrong.
 pub fn run(job: &Job) -> Vec<Line> {

@@ -24,7 +24,17 @@ impl Place {
     }
 
     pub fn refused(self, number: u8) -> Stop {
-        Stop(self.line(&format!("refused with {number}: {}", meaning(number))))
+        self.refused_since(number, meaning(number))
+    }
+
+    /// Refused since the frame bears this number and not the due one.
+    pub fn misnumbered(self, found: u8, due: u8) -> Stop {
+        let what = format!("number {found} where {due} was due");
+        self.refused_since(replies::OTHER_NUMBER, &what)
+    }
+
+    fn refused_since(self, number: u8, what: &str) -> Stop {
+        Stop(self.line(&format!("refused with {number}: {what}")))
     }
 
     pub fn cut(self, octets: usize) -> Stop {
@@ -41,8 +51,10 @@ fn meaning(number: u8) -> &'static str {
         }
         replies::OUT_TOO_SHORT => "out buffer shorter than the result",
         replies::STATE_OUT_OF_RANGE => "a state variable outside its range",
-        replies::NOT_A_FRAME => "fewer than 2 octets, or edition not 01",
-        replies::WRONG_LENGTH => "length not 2 + x times g",
+        replies::NOT_A_FRAME => "fewer than 2 octets, or edition neither 01 nor 10",
+        replies::WRONG_LENGTH => {
+            "length not 2 + x times g in edition 1, 3 + x times g in edition 2"
+        }
         replies::OTHER_CORE => "frame's core differs from the state's",
         replies::BAD_TARGET_WIDTH => "target width below y or above x",
         _ => "law not 0 (mu) or 1 (A)",

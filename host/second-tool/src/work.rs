@@ -9,9 +9,9 @@ use filter::files::Source;
 use filter::line::Line;
 use filter::stop::Stop;
 use second::calls::{self, reset};
-use second::frame::{GROUP, MOST_GROUPS, PLAIN};
+use second::frame::{GROUP, MOST_GROUPS};
 use second::g711::Law;
-use second::replies::DONE;
+use second::replies::{DONE, OTHER_NUMBER};
 use second::state::State;
 
 pub enum Work {
@@ -66,13 +66,13 @@ impl Work {
                 drop(widths[turn], *most, piece, place)
             }
             Work::Decode { law, state } => decode(*law, state, piece, place),
-            Work::Inspect(totals) => Ok(inspect(totals, piece, place)),
+            Work::Inspect(totals) => inspect(totals, piece, place),
         }
     }
 
     pub fn heading(&self) -> &'static str {
         match self {
-            Work::Inspect(_) => "frame edition x y g octets\n",
+            Work::Inspect(_) => "frame edition x y g number octets\n",
             _ => "",
         }
     }
@@ -105,7 +105,7 @@ fn encode(plan: &Plan, state: &mut State, piece: &[u8], place: Place) -> Result<
     let (samples, note) = filled(plan.law, piece, place);
     let mut out = [0; MOST_SAMPLES];
     let law = plan.law.number();
-    let answer = calls::encode(*state, law, PLAIN, plan.width, &samples, &mut out);
+    let answer = calls::encode(*state, law, plan.edition, plan.width, &samples, &mut out);
     let octets = done(answer.number, place, &out[..answer.octets])?;
     *state = answer.state;
     Ok(Made {
@@ -130,7 +130,7 @@ fn filled(law: Law, piece: &[u8], place: Place) -> (Vec<u8>, Option<Line>) {
 }
 
 fn drop(width: u8, most: bool, frame: &[u8], place: Place) -> Result<Made, Stop> {
-    let header = header(frame[0], frame[1]);
+    let header = header(frame, place)?;
     let target = if most {
         width.min(header.width).max(header.core)
     } else {
@@ -145,10 +145,13 @@ fn drop(width: u8, most: bool, frame: &[u8], place: Place) -> Result<Made, Stop>
 }
 
 fn decode(law: Law, kept: &mut Option<State>, frame: &[u8], place: Place) -> Result<Made, Stop> {
-    let core = header(frame[0], frame[1]).core;
-    let state = kept.unwrap_or_else(|| reset(core).state);
+    let header = header(frame, place)?;
+    let state = kept.unwrap_or_else(|| reset(header.core).state);
     let mut out = [0; MOST_SAMPLES];
     let answer = calls::decode(state, law.number(), frame, &mut out);
+    if let (OTHER_NUMBER, Some(found)) = (answer.number, header.number) {
+        return Err(place.misnumbered(found, state.number));
+    }
     let octets = done(answer.number, place, &out[..answer.octets])?;
     *kept = Some(answer.state);
     Ok(Made {
@@ -158,15 +161,16 @@ fn decode(law: Law, kept: &mut Option<State>, frame: &[u8], place: Place) -> Res
     })
 }
 
-fn inspect(totals: &mut Totals, frame: &[u8], place: Place) -> Made {
-    let header = header(frame[0], frame[1]);
+fn inspect(totals: &mut Totals, frame: &[u8], place: Place) -> Result<Made, Stop> {
+    let header = header(frame, place)?;
     totals.add(header.samples(), frame.len());
-    let (index, edition, octets) = (place.frame, frame[0] >> 6, frame.len());
+    let (index, edition, octets) = (place.frame, header.edition, frame.len());
     let (x, y, g) = (header.width, header.core, header.groups);
-    Made {
-        octets: format!("{index} {edition} {x} {y} {g} {octets}\n").into_bytes(),
+    let number = header.number.map_or("-".to_string(), |n| n.to_string());
+    Ok(Made {
+        octets: format!("{index} {edition} {x} {y} {g} {number} {octets}\n").into_bytes(),
         ..Made::default()
-    }
+    })
 }
 
 #[cfg(test)]
@@ -185,6 +189,32 @@ mod tests {
             );
         }
         assert!(drop(5, false, &frame, Place::default()).is_err());
+    }
+
+    /// The line that ends a stream of these frames, or none.
+    fn stopped(frames: &[[u8; 5]]) -> Option<String> {
+        let (mut kept, mut place) = (None, Place::default());
+        for frame in frames {
+            if let Err(stop) = decode(Law::Mu, &mut kept, frame, place) {
+                return Some(String::from_utf8_lossy(&stop.0).into_owned());
+            }
+            place = place.next(frame.len());
+        }
+        None
+    }
+
+    #[test]
+    fn a_number_that_is_not_due_is_told_beside_the_due_one() {
+        let numbered = |number| [0x92, 1, number, 0xF0, 0x0F];
+        assert_eq!(stopped(&[0, 1, 2].map(numbered)), None);
+        assert_eq!(
+            stopped(&[0, 1, 3].map(numbered)),
+            Some("frame 2 at octet 10: refused with 10: number 3 where 2 was due".to_string())
+        );
+        assert_eq!(
+            stopped(&[255].map(numbered)),
+            Some("frame 0 at octet 0: refused with 10: number 255 where 0 was due".to_string())
+        );
     }
 
     #[test]

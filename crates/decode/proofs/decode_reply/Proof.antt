@@ -1,9 +1,10 @@
 -- `decode::decode_reply` meets its contract, row by row; the frame's own rows are passed on.
 use borrow.Author.Needs.{needs}
-use mathlib.Core.Bool.{true}
+use mathlib.Core.Bool.{true, false}
 use mathlib.Core.Path.{_≡_, sym, _∙_}
 use Prim.Native.Nat.{ℕ}
-use borrow.Author.Tests.{lt-ltb, le-ltb, eq-eqb, ne-eqb, not-true, not-false}
+use lib.Dec.{eqb}
+use borrow.Author.Tests.{lt-ltb, le-ltb, not-true, not-false}
 use Rattle.words.specs.First.{first}
 use Rattle.words.proofs.First.{NoneApplies, first-says}
 use Rattle.state.specs.Range.{inRange}
@@ -48,29 +49,35 @@ left c room =
     let at = c .before .before .before in
     decode-behind _ _ _ _ room (ranged (at .before .before)) (lawful at) (sound c)
 
+-- the core is another, or the state's; and the number is due, or the edition bears none
+foreign : (c : tie.Then4) → eqb (c .before .before .before .before .before .before .before .before .before .before .before .args .h .core) (c .before .before .before .before .before .before .before .before .before .before .before .args .s .core) ≡ false
+foreign c = not-true _ (c .if4 .taken)
+
+ours : (c : tie.Else4) → eqb (c .before .before .before .before .before .before .before .before .before .before .before .args .h .core) (c .before .before .before .before .before .before .before .before .before .before .before .args .s .core) ≡ true
+ours c = not-false _ (c .if4 .left)
+
+timely : (c : tie.Else5) → isDue (c .before .before .before .before .before .before .before .before .before .before .before .before .args .h) (c .before .before .before .before .before .before .before .before .before .before .before .before .args .s .number) ≡ true
+timely c = sym (c .before .before .is-due .ensures) ∙ not-false _ (c .if5 .left)
+
 returns-4 : tie.Need-returns-4
 unfolding first
-returns-4 c = sym (left (c .before .before .before) _ ∙ rw (ne-eqb _ _ (c .if4 .taken)))
-
--- the number is due, or the edition bears none
-timely : (c : tie.Else5) → isDue (c .before .before .before .before .before .before .before .before .before .before .before .before .args .h) (c .before .before .before .before .before .before .before .before .before .before .before .before .args .s .number) ≡ true
-timely c = sym (c .before .is-due .ensures) ∙ not-false _ (c .if5 .left)
+returns-4 c = sym (left (c .before .before .before .before) _ ∙ rw (foreign c))
 
 returns-5 : tie.Need-returns-5
 unfolding first
-returns-5 c = sym (left (c .before .before .before .before .before) _ ∙ rw (eq-eqb _ _ (c .before .before .if4 .left), sym (c .before .is-due .ensures) ∙ not-true _ (c .if5 .taken)))
+returns-5 c = sym (left (c .before .before .before .before .before) _ ∙ rw (ours (c .before), sym (c .before .before .is-due .ensures) ∙ not-true _ (c .if5 .taken)))
 
 returns-6 : tie.Need-returns-6
 unfolding first
 returns-6 c =
     let at = c .before .before in
-    sym (left (at .before .before .before .before .before) _ ∙ rw (eq-eqb _ _ (at .before .before .if4 .left), timely at, ← c .before .sample-count .ensures, lt-ltb _ _ (c .if6 .taken)))
+    sym (left (at .before .before .before .before .before) _ ∙ rw (ours (at .before), timely at, ← c .before .sample-count .ensures, lt-ltb _ _ (c .if6 .taken)))
 
 returns-7 : tie.Need-returns-7
 unfolding first
 returns-7 c =
     let at = c .before .before in
-    sym (left (at .before .before .before .before .before) _ ∙ rw (eq-eqb _ _ (at .before .before .if4 .left), timely at, ← c .before .sample-count .ensures, le-ltb _ _ (c .if6 .left)))
+    sym (left (at .before .before .before .before .before) _ ∙ rw (ours (at .before), timely at, ← c .before .sample-count .ensures, le-ltb _ _ (c .if6 .left)))
 
 pub decode-reply-spec : {M : Type 1} → statement M
 decode-reply-spec =
@@ -83,8 +90,8 @@ decode-reply-spec =
     (search needs)
     (search needs)
     returns-3
-    returns-4
     (search needs)
+    returns-4
     returns-5
     (search needs)
     returns-6

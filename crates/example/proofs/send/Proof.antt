@@ -8,7 +8,7 @@ use Rattle.example.proofs.send.Statement.{statement}
 use Rattle.example.proofs.send.Tie as tie
 
 array-share-prefix-radio : tie.Need-array-share-prefix-radio
-array-share-prefix-radio c = rw (c .before .encode .ensures .octets, c .radio2 .given) (encode-room _ _ _ _ _)
+array-share-prefix-radio c = rw (c .before .encode .ensures .octets, c .radio2 .given) (encode-room _ _ _ _ _ _)
 
 slice-aggregate-drop-planes : tie.Need-slice-aggregate-drop-planes
 slice-aggregate-drop-planes c =

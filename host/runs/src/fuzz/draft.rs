@@ -1,7 +1,7 @@
 //! A call by its parts, drawn from the grammar of docs/TOOL.md so that all of it fits, and the faults
 //! that its data, its files and their names may get.
 
-use super::streams::{damage, frames, narrowest, sound};
+use super::streams::{damage, frames, misplace, narrowest, sound, EDITIONS};
 use crate::run::{Files, Given};
 use random::states::PAIRS;
 use random::Random;
@@ -13,6 +13,8 @@ const INPUTS: [&str; 4] = ["in", "./160", "./-", "frames.\u{fc}"];
 const OUTPUTS: [&str; 3] = ["out", "./8", "./-v"];
 const STATES: [&str; 2] = ["s", "./7"];
 const LIST: &str = "w";
+/// encode, LAW, WIDTH and CORE.
+const BEFORE_SAMPLES: usize = 4;
 
 pub struct Draft {
     verbose: bool,
@@ -30,10 +32,10 @@ pub struct Draft {
 
 impl Draft {
     pub fn draw(random: &mut Random) -> Draft {
-        let mut draft = match random.below(6) {
-            0 | 1 => encode(random),
-            2 => decode(random),
-            3 => inspect(random),
+        let mut draft = match random.below(8) {
+            0..=2 => encode(random),
+            3 | 4 => decode(random),
+            5 => inspect(random),
             _ => drop(random),
         };
         draft.verbose = random.below(3) == 0;
@@ -92,6 +94,7 @@ impl Draft {
             2 if self.has_states() => self.states = Some(unwritten),
             2..=4 if self.list.is_some() => self.spoil_list(random),
             _ if self.command[0] == "encode" => self.input = Some("none"),
+            5..=7 => misplace(random, &mut self.stream),
             _ => damage(random, &mut self.stream),
         }
     }
@@ -107,6 +110,19 @@ impl Draft {
             (false, true) if self.list.is_some() => (self.list, self.output) = (one, one),
             (false, _) => (self.input, self.output) = (one, one),
         }
+    }
+
+    /// Numbers behind CORE of which one is wrong or too many. Only encode has some.
+    pub fn miscount(&mut self, random: &mut Random) -> bool {
+        let numbers = [
+            "2", "7 3", "12 2", "160 0", "160 3", "8 12", "8 258", "8 1 2", "320 2 8",
+        ];
+        let counts = self.command[0] == "encode";
+        if counts {
+            self.command.truncate(BEFORE_SAMPLES);
+            self.command.extend(words(random.pick(&numbers)));
+        }
+        counts
     }
 
     fn spoil_list(&mut self, random: &mut Random) {
@@ -177,6 +193,9 @@ fn encode(random: &mut Random) -> Draft {
     if random.below(2) == 0 {
         let groups = random.within(1, 40);
         call.push((8 * groups).to_string());
+        if random.below(3) > 0 {
+            call.push(random.pick(&EDITIONS).to_string());
+        }
     }
     let bound = random.pick(&[20, 100, 700]);
     let count = random.below(bound) as usize;

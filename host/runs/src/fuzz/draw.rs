@@ -9,22 +9,32 @@ use random::Random;
 pub fn draw(random: &mut Random) -> (Aim, Given) {
     let aim = Aim::draw(random);
     let mut draft = Draft::draw(random);
-    if aim == Aim::Fault {
-        draft.spoil(random);
-        // With two faults it shows which is met first.
-        if random.below(4) == 0 {
+    match aim {
+        Aim::Done => (aim, draft.given()),
+        Aim::Fault => {
             draft.spoil(random);
+            // With two faults it shows which is met first.
+            if random.below(4) == 0 {
+                draft.spoil(random);
+            }
+            (aim, draft.given())
         }
+        Aim::WrongWords => (aim, with_wrong_words(draft, random)),
     }
-    let slips = aim == Aim::WrongWords && random.below(5) > 0;
-    if aim == Aim::WrongWords && (!slips || random.below(8) == 0) {
+}
+
+/// One name for two files, wrong numbers, slips, or the first and the last together.
+fn with_wrong_words(mut draft: Draft, random: &mut Random) -> Given {
+    let kind = random.below(10);
+    if kind < 3 {
         draft.tangle(random);
     }
+    let miscounted = (3..6).contains(&kind) && draft.miscount(random);
     let mut given = draft.given();
-    if slips {
+    if kind > 1 && !miscounted {
         edit(&mut given.words, &OF_TOOL, random);
     }
-    (aim, given)
+    given
 }
 
 #[cfg(test)]
@@ -65,6 +75,23 @@ mod tests {
         ] {
             let met = calls.iter().filter(|g| g.words.contains(&word.into()));
             assert!(met.count() > 2, "{word}");
+        }
+    }
+
+    /// The word behind LAW, WIDTH, CORE and SAMPLES, and the first bits of what goes in.
+    #[test]
+    fn both_editions_are_asked_for_and_come_in() {
+        let calls: Vec<Given> = drawn(5).into_iter().map(|(_, given)| given).collect();
+        let asked = |given: &Given| {
+            let place = given.words.iter().position(|word| word == "encode")?;
+            given.words.get(place + 5).cloned()
+        };
+        for (edition, word) in [(1, "1"), (2, "2")] {
+            let met = calls.iter().filter(|g| asked(g) == Some(word.into()));
+            assert!(met.count() > COUNT / 50, "{edition}");
+            let first = |g: &&Given| g.input.first().is_some_and(|octet| octet >> 6 == edition);
+            let decoded = calls.iter().filter(|g| g.words.contains(&"decode".into()));
+            assert!(decoded.filter(first).count() > COUNT / 50, "{edition}");
         }
     }
 

@@ -7,7 +7,7 @@ use std::os::unix::ffi::OsStringExt;
 
 /// Wrong words for the tool. No name of a file without an end is among them, since any of them may
 /// become IN.
-pub const OF_TOOL: [&str; 44] = [
+pub const OF_TOOL: [&str; 46] = [
     "",
     "-",
     "--",
@@ -28,12 +28,14 @@ pub const OF_TOOL: [&str; 44] = [
     "02",
     "+2",
     "2.0",
+    "2x",
     "8",
     "12",
     "160",
     "258",
     "320",
     "328",
+    "18446744073709551618",
     "18446744073709551624",
     "99999999999999999999999",
     "x",

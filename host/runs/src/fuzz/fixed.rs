@@ -2,9 +2,10 @@
 //! meet.
 
 use super::ends::{Odd, Redirected};
-use super::streams::{frames, sound};
+use super::streams::{sound, stream, EDITIONS};
 use crate::run::{Done, Files, Given};
 use random::Random;
+use second::frame::NUMBERED;
 use second::g711::Law;
 use std::ffi::OsString;
 use std::os::unix::ffi::OsStringExt;
@@ -65,6 +66,8 @@ fn long_words() -> Vec<Given> {
         call(&["encode", "mu", &last(2_000, "9"), &last(2_000, "2")]),
         call(&["encode", "mu", "5", "2", &last(3_000, "8")]),
         call(&["encode", "mu", "5", "2", &zeros(5_000)]),
+        call(&["encode", "mu", "5", "2", "8", &last(3_000, "2")]),
+        call(&["encode", "mu", "5", "2", "8", &last(COUNTED + 1, "2")]),
     ]
 }
 
@@ -126,18 +129,21 @@ fn lists() -> Vec<Given> {
     .to_vec()
 }
 
-/// Longer than the buffers of either program, whole and with a refusal or a cut at the end.
+/// Longer than the buffers of either program, with more frames than there are numbers; whole, and with
+/// a refusal, a cut or a lost frame at the end.
 fn long_streams() -> Vec<Given> {
     let mut random = Random::new(727);
     let speech = sound(&mut random, Law::Mu, 20_003);
-    let whole: Vec<u8> = (0..200)
-        .flat_map(|_| frames(&mut random, 3).concat())
-        .collect();
+    let frames = stream(&mut random, 3, &EDITIONS, 900);
+    let whole = frames.concat();
     let refused = [whole.as_slice(), &[0, 0]].concat();
     let cut = whole[..whole.len() - 1].to_vec();
+    let numbered = stream(&mut random, 3, &[NUMBERED], 900);
+    let lost = [&numbered[..767], &numbered[768..]].concat().concat();
     let mut calls = vec![given(&["-v", "encode", "mu", "5", "2", "8"], &speech)];
+    calls.push(given(&["-v", "encode", "mu", "5", "2", "8", "2"], &speech));
     calls.push(given(&["encode", "a", "4", "4", "-", "out"], &speech));
-    for stream in [whole, refused, cut] {
+    for stream in [whole, refused, cut, lost] {
         for words in [
             &["-states", "s", "decode", "a"][..],
             &["drop", "-most", "4", "-", "out"],
@@ -164,7 +170,7 @@ pub fn odd() -> Odd {
 fn slow() -> Vec<Given> {
     let mut random = Random::new(726);
     let speech = sound(&mut random, Law::A, 101);
-    let stream = [0x6A, 2, 1, 2, 3, 4, 5, 6, 7, 8, 9, 10].repeat(9);
+    let stream = stream(&mut random, 2, &EDITIONS, 9).concat();
     vec![
         given(&["-v", "encode", "a", "3", "2", "16"], &speech),
         given(&["drop", "-most", "3", "-", "out"], &stream),

@@ -2,8 +2,13 @@
 
 use random::Random;
 use second::calls;
+use second::frame::{HEADER_OCTETS, NUMBERED, PLAIN};
 use second::g711::{compress, Law};
 use second::state::State;
+
+pub const EDITIONS: [u8; 2] = [PLAIN, NUMBERED];
+/// Octets of the longest frame, which is of edition 2.
+const LONGEST: usize = 203;
 
 /// Octets of any value, or noise whose levels hang together as those of speech do.
 pub fn sound(random: &mut Random, law: Law, count: usize) -> Vec<u8> {
@@ -21,23 +26,34 @@ pub fn sound(random: &mut Random, law: Law, count: usize) -> Vec<u8> {
         .collect()
 }
 
-/// Up to nine frames of one core, as an encoder writes them one after the other.
+/// Up to nine frames of one core, of one edition or of both.
 pub fn frames(random: &mut Random, core: u8) -> Vec<Vec<u8>> {
+    let one = [random.pick(&EDITIONS)];
+    let editions = random.pick(&[one.as_slice(), EDITIONS.as_slice()]);
+    let count = random.below(10);
+    stream(random, core, editions, count)
+}
+
+/// Frames of one core as an encoder writes them one after the other, each of one of these editions.
+pub fn stream(random: &mut Random, core: u8, editions: &[u8], count: u64) -> Vec<Vec<u8>> {
     let law = random.pick(&Law::BOTH);
     let mut state = calls::reset(core).state;
-    (0..random.below(10))
-        .map(|_| frame(random, law, &mut state))
+    (0..count)
+        .map(|_| {
+            let edition = random.pick(editions);
+            frame(random, law, edition, &mut state)
+        })
         .collect()
 }
 
 /// One in sixteen may be long.
-fn frame(random: &mut Random, law: Law, state: &mut State) -> Vec<u8> {
+fn frame(random: &mut Random, law: Law, edition: u8, state: &mut State) -> Vec<u8> {
     let most_groups = if random.below(16) == 0 { 40 } else { 5 };
     let samples = 8 * random.within(1, most_groups) as usize;
     let width = random.within(state.core.into(), 5) as u8;
-    let mut out = [0; 202];
+    let mut out = [0; LONGEST];
     let pcm = sound(random, law, samples);
-    let answer = calls::encode(*state, law.number(), 1, width, &pcm, &mut out);
+    let answer = calls::encode(*state, law.number(), edition, width, &pcm, &mut out);
     *state = answer.state;
     out[..answer.octets].to_vec()
 }
@@ -50,14 +66,11 @@ pub fn narrowest(frames: &[Vec<u8>]) -> u8 {
 
 /// Damage of one kind. Not all of it is noticed: a bit of a plane may be any bit.
 pub fn damage(random: &mut Random, frames: &mut Vec<Vec<u8>>) {
-    frames.retain(|frame| !frame.is_empty());
-    if frames.is_empty() {
-        frames.push(garbage(random));
+    let Some(place) = any_place(random, frames) else {
         return;
-    }
-    let [place, other] = [0; 2].map(|_| random.below(frames.len() as u64) as usize);
+    };
     let frame = &mut frames[place];
-    match random.below(6) {
+    match random.below(7) {
         0 => frame[0] ^= 1 << random.below(8),
         1 => {
             let octet = random.below(frame.len() as u64) as usize;
@@ -67,13 +80,53 @@ pub fn damage(random: &mut Random, frames: &mut Vec<Vec<u8>>) {
             frame.truncate(random.below(frame.len() as u64) as usize);
             frames.truncate(place + 1);
         }
-        3 => frames.swap(place, other),
+        // The other edition, whose frame has another length.
+        3 => frame[0] ^= (PLAIN ^ NUMBERED) << 6,
         4 => frames.insert(place, garbage(random)),
+        5 => misplace(random, frames),
         _ => {
             let core = random.within(2, 4) as u8;
             let mut others = self::frames(random, core);
             frames.append(&mut others);
         }
+    }
+}
+
+/// A frame lost, doubled, exchanged with another or given another number. In edition 1 decode does not
+/// notice.
+pub fn misplace(random: &mut Random, frames: &mut Vec<Vec<u8>>) {
+    let Some(place) = any_place(random, frames) else {
+        return;
+    };
+    match random.below(4) {
+        0 => {
+            frames.remove(place);
+        }
+        1 => frames.insert(place, frames[place].clone()),
+        2 => {
+            let other = random.below(frames.len() as u64) as usize;
+            frames.swap(place, other);
+        }
+        _ => renumber(random, &mut frames[place]),
+    }
+}
+
+/// The place of a frame that is not empty. Where there is none, there is garbage afterwards.
+fn any_place(random: &mut Random, frames: &mut Vec<Vec<u8>>) -> Option<usize> {
+    frames.retain(|frame| !frame.is_empty());
+    if frames.is_empty() {
+        frames.push(garbage(random));
+        return None;
+    }
+    Some(random.below(frames.len() as u64) as usize)
+}
+
+/// Another number, one time in two a near one. A frame that has none is spoiled at the same place.
+fn renumber(random: &mut Random, frame: &mut [u8]) {
+    let any = random.byte();
+    let by = random.pick(&[1, 255, any, any]);
+    if let Some(number) = frame.get_mut(HEADER_OCTETS) {
+        *number = number.wrapping_add(by);
     }
 }
 
@@ -96,6 +149,17 @@ mod tests {
                 assert_eq!(header.core, core);
             }
         }
+    }
+
+    #[test]
+    fn numbers_go_on_through_both_editions_and_begin_again() {
+        let mut random = Random::new(3);
+        let frames = stream(&mut random, 4, &EDITIONS, 900);
+        let headers = frames.iter().flat_map(|frame| read_header(frame));
+        let numbers: Vec<u8> = headers.filter_map(|header| header.number).collect();
+        let due: Vec<u8> = (0..=255).cycle().take(numbers.len()).collect();
+        assert_eq!(numbers, due);
+        assert!((300..600).contains(&numbers.len()));
     }
 
     #[test]
