@@ -1,8 +1,8 @@
 //! Looks for spandsp's header and library where a system keeps them. The program is built either
 //! way; `spandsp` is set only where both were found.
 
-use std::fs;
 use std::path::{Path, PathBuf};
+use std::{env, fs};
 
 const PREFIXES: [&str; 2] = ["/usr", "/usr/local"];
 
@@ -21,13 +21,19 @@ fn main() {
     }
 }
 
-/// In the directory itself or just below it: Debian keeps one for each architecture.
+/// In the directory itself or just below it: Debian keeps one for each architecture, and what is in
+/// another's cannot be linked.
 fn find(kind: &str, name: &str) -> Option<PathBuf> {
+    let architecture = env::var("CARGO_CFG_TARGET_ARCH").unwrap_or_default();
+    let is_ours = |entry: &fs::DirEntry| {
+        let name = entry.file_name();
+        name.to_string_lossy().starts_with(&architecture)
+    };
     PREFIXES.iter().find_map(|prefix| {
         let own = Path::new(prefix).join(kind);
         let below = fs::read_dir(&own).into_iter().flatten().flatten();
         std::iter::once(own.clone())
-            .chain(below.map(|entry| entry.path()))
+            .chain(below.filter(is_ours).map(|entry| entry.path()))
             .map(|directory| directory.join(name))
             .find(|file| file.exists())
     })
