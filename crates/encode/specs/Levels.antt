@@ -17,7 +17,7 @@ use Rattle.frame.specs.Planes.{frameOf}
 abbrev pub encodedHeader : ℕ → ℕ → ℕ → ℕ → ℕ → Header
 encodedHeader core number e width n = record { edition = e; width = width; core = core; groups = n / group; number = borne e number }
 
--- and in which that is the state's
+-- the header of a state's next frame
 abbrev pub dueHeader : State → ℕ → ℕ → ℕ → Header
 dueHeader s e width n = encodedHeader (s .core) (s .number) e width n
 

@@ -1,4 +1,4 @@
--- Which numbers are due, and how they go on: what the test of a number says, and that a number moved on over and over is the count modulo 256.
+-- Which numbers are due: what the test of a number says, either way.
 use mathlib.Core.Bool.{Bool, true, false, not, _||_}
 use mathlib.Core.Path.{_≡_, refl}
 use Prim.Native.Nat.{ℕ}

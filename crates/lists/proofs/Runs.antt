@@ -12,6 +12,12 @@ module _ {S A : Type 0} (next : S → A → S) where
   outs-length f s [] = refl
   outs-length f s (a ∷ xs) = ap suc (outs-length f (next s a) xs)
 
+  -- what every step keeps, a run keeps
+  pub last-keeps : (P : S → Type 0) → ((s : S) (a : A) → P s → P (next s a)) → (s : S) → P s → (xs : List A) → P (last next s xs)
+  unfolding last
+  last-keeps P step s p [] = p
+  last-keeps P step s p (a ∷ xs) = last-keeps P step (next s a) (step s a p) xs
+
   -- the next input of a run over a list's rest
   module _ (s : S) (xs : List A) (i : ℕ) (d : A) (h : i < length xs) where
     pub last-next : last next s (drop i xs) ≡ last next (next s (getD xs i d)) (drop (suc i) xs)

@@ -1,4 +1,5 @@
--- The rules' table as a test and as facts: each follows from the other. The reset state is in range, and its words are words.
+-- The rules' table as a test and as facts: each follows from the other. The reset state is in range, its words are words, and its core and number are
+-- those that it was made with.
 use mathlib.Core.Bool.{true}
 use mathlib.Core.List.{List}
 use mathlib.Core.Path.{_≡_, refl}
@@ -111,6 +112,14 @@ reset-memory-in-range =
 pub reset-in-range : (core : ℕ) → Within 2 4 core → InRange (resetOf core)
 unfolding resetOf
 reset-in-range core w = record { memory = reset-memory-in-range; cores = w }
+
+pub reset-core : (core : ℕ) → resetOf core .core ≡ core
+unfolding resetOf
+reset-core core = refl
+
+pub reset-number : (core : ℕ) → resetOf core .number ≡ 0
+unfolding resetOf
+reset-number core = refl
 
 pub reset-words : Words resetMemory
 unfolding resetMemory

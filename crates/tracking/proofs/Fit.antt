@@ -8,7 +8,7 @@ use Rattle.words.specs.Within.{Within}
 use Rattle.state.specs.declared.State.{State}
 use Rattle.state.specs.Reset.{resetOf}
 use Rattle.state.specs.InRange.{InRange}
-use Rattle.state.proofs.Ranges.{reset-in-range}
+use Rattle.state.proofs.Ranges.{reset-in-range, reset-core}
 use Rattle.frame.specs.declared.header.Header.{Header}
 use Rattle.frame.specs.Header.{headerOf}
 use Rattle.frame.specs.Read.{narrowed, thinned}
@@ -16,7 +16,7 @@ use Rattle.frame.specs.Sound.{Sound}
 use Rattle.frame.proofs.Headers.{thinned-header}
 use Rattle.frame.proofs.Kept.{thinned-sound}
 use Rattle.frame.proofs.Due.{due-of-borne}
-use Rattle.encode.specs.Levels.{dueHeader, encodedFrame, encodedMemory, encodedState}
+use Rattle.encode.specs.Levels.{dueHeader, encodedFrame}
 use Rattle.encode.specs.Encode.{encodeReply}
 use Rattle.encode.specs.Inner.{Encodable}
 use Rattle.encode.proofs.Fitness.{encode-of}
@@ -27,8 +27,8 @@ use Rattle.decode.specs.Inner.{Decodable}
 use Rattle.decode.proofs.Fitness.{decode-of}
 use Rattle.tracking.specs.Calls.{Sending, Station, sendReply, encoderAfter, decoderAfter, Passed, finally}
 use Rattle.tracking.specs.Stream.{Transfer, heard, Unrefused, AllUnrefused, EqualThroughout, Narrowing, sentHeader, FitSending, Fit, AllFit}
-use Rattle.tracking.proofs.Runs.{run-in-range}
-use Rattle.tracking.proofs.Frames.{sentLevels, levels-sized, Sendable, written-is, encoder-is, passed-is, arrives}
+use Rattle.tracking.proofs.Frames.{sentLevels, levels-sized, Sendable, written-is, passed-is, arrives}
+use Rattle.tracking.proofs.Kept.{sender-core, sender-in-range}
 use Rattle.tracking.proofs.Demand3.{frame-sound, frame-header, transfer-tracks, stream-tracks}
 
 -- no base station refuses a sound frame that comes down to it
@@ -51,14 +51,6 @@ module _ (s : State) (c : Sending) (i : InRange s) (k : FitSending (s .core) c) 
   pub sends : sendReply s c ≡ 0
   unfolding encodeReply
   sends = encode-of s (c .law) (c .edition) (c .width) (length (c .samples)) (length (c .buffer)) (k .law) able
-
-  pub after-in-range : InRange (encoderAfter s c)
-  unfolding encodedState encodedMemory
-  after-in-range = rw (encoder-is s c sends) (record { memory = run-in-range (k .header .pair) (s .memory) (i .memory) (sentLevels c); cores = i .cores })
-
-  pub after-core : encoderAfter s c .core ≡ s .core
-  unfolding encodedState
-  after-core = rw (encoder-is s c sends)
 
 -- what base stations ask of a header is not its number
 narrowing-numbered : (h : Header) (n : ℕ) (stations : List Station) → Narrowing h stations → Narrowing (record { edition = h .edition; width = h .width; core = h .core; groups = h .groups; number = n }) stations
@@ -115,11 +107,7 @@ stream-fits s core i e (x ∷ xs) (k, ks) =
     let here : Fit (s .core) x = rw e k in
     let u = transfer-fits s x i here in
     let same : decoderAfter s (heard s x) ≡ encoderAfter s (x .sent) = transfer-tracks s x u in
-    (u, rw same (stream-fits (encoderAfter s (x .sent)) core (after-in-range s (x .sent) i (here .sending)) (after-core s (x .sent) i (here .sending) ∙ e) xs ks))
-
-reset-core : (core : ℕ) → resetOf core .core ≡ core
-unfolding resetOf
-reset-core core = refl
+    (u, rw same (stream-fits (encoderAfter s (x .sent)) core (sender-in-range s (x .sent) i) (sender-core s (x .sent) ∙ e) xs ks))
 
 -- demand 3 for fit inputs: from one reset on, no call is refused, and the states are equal after every frame
 pub demand-3-fit : (core : ℕ) → Within 2 4 core → (xs : List Transfer) → AllFit core xs

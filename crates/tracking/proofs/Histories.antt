@@ -13,6 +13,7 @@ use Rattle.words.proofs.Pick.{by-pick}
 use Rattle.words.proofs.Rows.{both}
 use Rattle.state.specs.declared.State.{State}
 use Rattle.state.specs.Reset.{resetOf}
+use Rattle.state.proofs.Ranges.{reset-number}
 use Rattle.frame.specs.Header.{headerOf, isNumbered}
 use Rattle.frame.specs.Sound.{Sound}
 use Rattle.frame.proofs.Due.{due-says}
@@ -25,7 +26,8 @@ use Rattle.tracking.specs.Calls.{Sending, Station, Hearing, sendReply, w
 use Rattle.tracking.specs.History.{writes, numberedFrames, accepted, afterAll, Brings}
 use Rattle.tracking.proofs.Frames.{sentLevels, encodable, written-is, arrives}
 use Rattle.tracking.proofs.Demand3.{frame-sound, frame-header}
-use Rattle.tracking.proofs.Numbers.{sender-core, sender-number, sender-small, hearer-counts}
+use Rattle.tracking.proofs.Kept.{sender-core}
+use Rattle.tracking.proofs.Numbers.{sender-number, sender-small, hearer-counts}
 
 -- a sound edition 2 frame with this core and this number
 pub record Bearing (core number : ℕ) (frame : List ℕ) : Type 0 where
@@ -93,10 +95,10 @@ pub brought-bears : (s : State) → s .number < 256 → (cs : List Sending) {pla
     → Bearing (s .core) ((s .number + place) % 256) (d .frame)
 brought-bears s small cs {place} b = rw (b .is) (arrived-bears _ (b .stations) (b .passed) (place-bears s small cs place (b .there)))
 
--- reset's number, whatever core it was asked for
-reset-number : (core : ℕ) → resetState core .number ≡ 0
-unfolding resetState resetOf
-reset-number core = by-pick (λ (s : State). s .number ≡ 0) (eqb (resetNumber core) 0) (resetOf core) (resetOf 2) (λ t. refl) (λ t. refl)
+-- the call reset hands back number 0, whatever core it was asked for
+handed-number : (core : ℕ) → resetState core .number ≡ 0
+unfolding resetState
+handed-number core = by-pick (λ (s : State). s .number ≡ 0) (eqb (resetNumber core) 0) (resetOf core) (resetOf 2) (λ t. reset-number core) (λ t. reset-number 2)
 
 -- an accepted frame bears the number that is due
 pub accepted-bears : {core n : ℕ} (t : State) (d : Hearing) → Bearing core n (d .frame) → hearReply t d ≡ 0 → n ≡ t .number
@@ -111,8 +113,8 @@ pub place-tells : (core core′ : ℕ) (cs : List Sending) (ds : List Hearing) (
 place-tells core core′ cs ds place d brings done =
     let s = resetState core in
     let t = resetState core′ in
-    let from = reset-number core in
-    let from′ = reset-number core′ in
+    let from = handed-number core in
+    let from′ = handed-number core′ in
     let b = brought-bears s (omega arith) cs brings in
     let counted = hearer-counts t (omega arith) ds in
     let due = accepted-bears (afterAll t ds) d b done in

@@ -1,5 +1,6 @@
 pub mod Runs
 pub mod Frames
+pub mod Kept
 pub mod Demand3
 pub mod Narrower
 pub mod Buffers

@@ -10,12 +10,13 @@ use Rattle.lists.specs.Run.{total}
 use Rattle.state.specs.declared.State.{State}
 use Rattle.state.specs.Reset.{resetOf}
 use Rattle.state.specs.InRange.{InRange}
-use Rattle.state.proofs.Ranges.{reset-in-range}
+use Rattle.state.proofs.Ranges.{reset-in-range, reset-core}
 use Rattle.frame.specs.Header.{numbered, isNumbered, headerLength}
 use Rattle.tracking.specs.Calls.{Sending, written, encoderAfter}
 use Rattle.tracking.specs.Stream.{Transfer, heard, FitSending, Fit}
 use Rattle.tracking.specs.History.{writes, numberedFrames, accepted, afterAll, Behind, Refused}
-use Rattle.tracking.proofs.Fit.{sends, after-in-range, after-core, transfer-fits}
+use Rattle.tracking.proofs.Fit.{sends, transfer-fits}
+use Rattle.tracking.proofs.Kept.{sender-core, sender-in-range}
 use Rattle.tracking.proofs.Histories.{written-bears, arrived-bears}
 use Rattle.tracking.proofs.Losses.{after-a-loss}
 use Rattle.tracking.proofs.Witness.{transfer, fit}
@@ -35,7 +36,7 @@ unfolding headerLength
 fits = fit _ _ (omega arith) refl _ refl
 
 -- a state of core 2 in range, from which the call is made
-pub record At2 (s : State) : Type 0 where
+record At2 (s : State) : Type 0 where
   pub range : InRange s
   pub core : s .core ≡ 2
 
@@ -47,7 +48,7 @@ module _ (s : State) (a : At2 s) where
   written-here = writes-fit s call (a .range) (fits-here .sending) refl
 
   next : At2 (encoderAfter s call)
-  next = record { range = after-in-range s call (a .range) (fits-here .sending); core = after-core s call (a .range) (fits-here .sending) ∙ a .core }
+  next = record { range = sender-in-range s call (a .range); core = sender-core s call ∙ a .core }
 
 abbrev start : State
 start = resetOf 2
@@ -59,8 +60,7 @@ abbrev third : State
 third = encoderAfter second call
 
 at-start : At2 start
-unfolding resetOf
-at-start = record { range = reset-in-range 2 (within-says 2 4 2 refl); core = refl }
+at-start = record { range = reset-in-range 2 (within-says 2 4 2 refl); core = reset-core 2 }
 
 at-third : At2 third
 at-third = next second (next start at-start)

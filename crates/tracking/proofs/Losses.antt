@@ -2,78 +2,37 @@
 -- alone; an edition 1 frame is decoded as ever; and a frame whose number is the due one is taken for it, whatever its place.
 use mathlib.Core.Bool.{true, false}
 use mathlib.Core.List.{List, [], _∷_}
-use mathlib.Core.Path.{_≡_, refl, sym, ap, _∙_}
-use Prim.Native.Nat.{ℕ, suc, _%_, _^_, _≤_, _<_}
+use mathlib.Core.Path.{_≡_, sym, ap, _∙_}
+use Prim.Native.Nat.{ℕ, _%_, _≤_}
 use native.Mathlib.Omega.{arith}
-use lib.Dec.{eqb}
-use lib.ListN.{length, getD}
-use borrow.Author.Tests.{eqb-true, eq-eqb, ne-eqb, le-leb}
+use lib.ListN.{length}
+use borrow.Author.Tests.{eq-eqb, ne-eqb, le-leb}
 use Rattle.words.specs.First.{first}
 use Rattle.words.specs.Within.{Within}
-use Rattle.words.proofs.Pick.{by-pick, cases}
-use Rattle.lists.specs.Run.{last}
-use Rattle.quantizer.specs.Pair.{Pair}
-use Rattle.state.specs.declared.memory.Memory.{Memory}
+use Rattle.words.proofs.Pick.{cases}
 use Rattle.state.specs.declared.State.{State}
 use Rattle.state.specs.Reset.{resetOf}
-use Rattle.state.specs.InRange.{MemoryInRange, InRange}
-use Rattle.state.proofs.Ranges.{range-of, reset-in-range}
-use Rattle.sample.specs.Decode.{decoderNext}
-use Rattle.sample.proofs.Tracks.{decode-in-range}
+use Rattle.state.specs.InRange.{InRange}
+use Rattle.state.proofs.Ranges.{range-of, reset-in-range, reset-core, reset-number}
 use Rattle.frame.specs.Header.{headerOf, sampleCount, isDue}
-use Rattle.frame.specs.Read.{body, received}
 use Rattle.frame.specs.Sound.{Sound}
-use Rattle.frame.proofs.Codewords.{read-length, read-short}
 use Rattle.frame.proofs.Sounds.{sound-none}
-use Rattle.decode.specs.Codewords.{decodedMemory, decodedState}
 use Rattle.decode.specs.Decode.{decodeReply, decodeOctets, decodeMoved, decodeState, decodeOut}
-use Rattle.decode.proofs.Fitness.{decode-says, decode-of, decode-behind}
+use Rattle.decode.proofs.Fitness.{decode-of, decode-behind}
 use Rattle.tracking.specs.Calls.{Sending, Hearing, hearReply, decoderAfter}
 use Rattle.tracking.specs.History.{numberedFrames, isNumberedFrame, accepted, afterAll, Brings, AllBehind, Refused, AllRefused}
-use Rattle.tracking.proofs.Numbers.{hearer-core, hearer-number, hearer-counts}
+use Rattle.tracking.proofs.Kept.{hearer-core, hearer-in-range, afterwards-in-range, afterwards-core}
+use Rattle.tracking.proofs.Numbers.{hearer-number, hearer-counts}
 use Rattle.tracking.proofs.Histories.{Bearing, bearing-same, brought-bears}
 
--- a decoder's state stays in range, whatever it is given
-run-in-range : {core w : ℕ} → Pair w core → (m : Memory) → MemoryInRange m → (cws : List ℕ) → ((k : ℕ) → k < length cws → getD cws k 0 < 2 ^ w)
-    → MemoryInRange (last (decoderNext core w) m cws)
-unfolding last
-run-in-range p m i [] short = i
-run-in-range {core} {w} p m i (c ∷ cws) short =
-    run-in-range p (decoderNext core w m c) (decode-in-range m p i c (short 0 (omega arith))) cws (λ k h. short (suc k) (omega arith))
-
-pub hearer-in-range : (t : State) (d : Hearing) → InRange t → InRange (decoderAfter t d)
-unfolding decodeState decodeReply decodedState decodedMemory received
-hearer-in-range t d i =
-    let h = headerOf (d .frame) in
-    let size = read-length (h .width) (h .groups) (body (d .frame)) in
-    by-pick InRange (eqb (hearReply t d) 0) (decodedState t h (received (d .frame))) t
-    (λ done.
-    let k = decode-says t (d .law) h (length (d .frame)) (length (d .buffer)) (eqb-true (hearReply t d) 0 done) .1 in
-    record {
-      memory = run-in-range (rw (k .core) at (k .sound .header .pair)) (t .memory) (i .memory) (received (d .frame)) (λ j there. read-short (h .width) (h .groups) (body (d .frame)) j (rw size at there));
-      cores = i .cores;
-    })
-    (λ refused. i)
-
--- after any frames whatever: the state is in range, and its core is the one it began with
-pub afterwards-in-range : (t : State) → InRange t → (ds : List Hearing) → InRange (afterAll t ds)
-unfolding afterAll last
-afterwards-in-range t i [] = i
-afterwards-in-range t i (d ∷ ds) = afterwards-in-range (decoderAfter t d) (hearer-in-range t d i) ds
-
-pub afterwards-core : (t : State) (ds : List Hearing) → afterAll t ds .core ≡ t .core
-unfolding afterAll last
-afterwards-core t [] = refl
-afterwards-core t (d ∷ ds) = afterwards-core (decoderAfter t d) ds ∙ hearer-core t d
-
 -- a sound frame of the state's core, at a state in range, with a law that there is
-pub record Heard (t : State) (d : Hearing) : Type 0 where
+pub record Hearable (t : State) (d : Hearing) : Type 0 where
   pub range : InRange t
   pub law : d .law ≤ 1
   pub sound : Sound (headerOf (d .frame)) (length (d .frame))
   pub core : headerOf (d .frame) .core ≡ t .core
 
-module _ (t : State) (d : Hearing) (k : Heard t d) where
+module _ (t : State) (d : Hearing) (k : Hearable t d) where
   -- where its number is not due it is refused with 10
   refused-number : isDue (headerOf (d .frame)) (t .number) ≡ false → hearReply t d ≡ 10
   unfolding decodeReply first
@@ -97,7 +56,7 @@ unfolding decodeOctets decodeMoved decodeState decodeOut
 refused t d number = record { number = number; octets = rw number; moved = rw number; state = rw number; out = rw number }
 
 module _ {core n : ℕ} (t : State) (d : Hearing) (i : InRange t) (law : d .law ≤ 1) (b : Bearing core n (d .frame)) (e : core ≡ t .core) where
-  hears : Heard t d
+  hears : Hearable t d
   hears = record { range = i; law = law; sound = b .sound; core = b .core-is ∙ e }
 
   pub other-number-refused : (n ≡ t .number → ⊥) → Refused t d
@@ -106,14 +65,6 @@ module _ {core n : ℕ} (t : State) (d : Hearing) (i : InRange t) (law : d .law 
 
   pub due-number-taken : n ≡ t .number → sampleCount (headerOf (d .frame)) ≤ length (d .buffer) → hearReply t d ≡ 0
   due-number-taken same room = due-decoded t d hears (rw (b .numbered, eq-eqb (headerOf (d .frame) .number) (t .number) (b .number-is ∙ same))) room
-
-reset-core : (core : ℕ) → resetOf core .core ≡ core
-unfolding resetOf
-reset-core core = refl
-
-reset-number : (core : ℕ) → resetOf core .number ≡ 0
-unfolding resetOf
-reset-number core = refl
 
 -- both ends reset to one core, and the encoder has made any calls
 module _ (core : ℕ) (within : Within 2 4 core) (cs : List Sending) where

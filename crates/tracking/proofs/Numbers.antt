@@ -1,4 +1,4 @@
--- The number and the core of either end, moved on by any list of calls: the core stays, and the number counts edition 2 frames modulo 256.
+-- The number of either end, moved on by any list of calls: it counts edition 2 frames modulo 256.
 use mathlib.Core.Bool.{Bool, true, false, _&&_}
 use mathlib.Core.List.{List, [], _∷_}
 use mathlib.Core.Path.{_≡_, refl, ap, _∙_}
@@ -9,50 +9,29 @@ use Rattle.words.specs.Notation.{pick}
 use Rattle.words.proofs.Pick.{pick-lt}
 use Rattle.lists.specs.Run.{last, total}
 use Rattle.state.specs.declared.State.{State}
-use Rattle.frame.specs.Header.{headerOf, isNumbered, numberAfter}
-use Rattle.frame.specs.Read.{received}
+use Rattle.frame.specs.Header.{isNumbered, numberAfter}
 use Rattle.encode.specs.Levels.{encodedState}
-use Rattle.encode.specs.Encode.{levelsOf, encodeState}
+use Rattle.encode.specs.Encode.{encodeState}
 use Rattle.decode.specs.Codewords.{decodedState}
 use Rattle.decode.specs.Decode.{decodeState}
 use Rattle.tracking.specs.Calls.{Sending, Hearing, sendReply, encoderAfter, hearReply, decoderAfter}
 use Rattle.tracking.specs.History.{writes, isNumberedFrame, accepts, accepted, afterAll}
+use Rattle.tracking.proofs.Kept.{sent, decoded}
 
--- a state that is the next one where a call is done, and else the old one
-module _ (next s : State) where
-  core-kept : (done : Bool) → next .core ≡ s .core → pick done next s .core ≡ s .core
-  core-kept true e = e
-  core-kept false e = refl
+-- a state that is the next one where a call is done, and else the old one, with a frame that bears a number or not
+number-moved : (next s : State) (done bears : Bool) (n : ℕ) → next .number ≡ pick bears n (s .number) → pick done next s .number ≡ pick (bears && done) n (s .number)
+number-moved next s true true n e = e
+number-moved next s true false n e = e
+number-moved next s false true n e = refl
+number-moved next s false false n e = refl
 
-  number-moved : (done bears : Bool) (n : ℕ) → next .number ≡ pick bears n (s .number) → pick done next s .number ≡ pick (bears && done) n (s .number)
-  number-moved true true n e = e
-  number-moved true false n e = e
-  number-moved false true n e = refl
-  number-moved false false n e = refl
+pub sender-number : (s : State) (c : Sending) → encoderAfter s c .number ≡ pick (writes s c) ((s .number + 1) % 256) (s .number)
+unfolding encoderAfter encodeState encodedState numberAfter
+sender-number s c = number-moved (sent s c) s (eqb (sendReply s c) 0) (isNumbered (c .edition)) ((s .number + 1) % 256) refl
 
-module _ (s : State) (c : Sending) where
-  abbrev sent : State
-  sent = encodedState s (c .edition) (c .width) (levelsOf (c .law) (c .samples))
-
-  pub sender-core : encoderAfter s c .core ≡ s .core
-  unfolding encoderAfter encodeState encodedState
-  sender-core = core-kept sent s (eqb (sendReply s c) 0) refl
-
-  pub sender-number : encoderAfter s c .number ≡ pick (writes s c) ((s .number + 1) % 256) (s .number)
-  unfolding encoderAfter encodeState encodedState numberAfter
-  sender-number = number-moved sent s (eqb (sendReply s c) 0) (isNumbered (c .edition)) ((s .number + 1) % 256) refl
-
-module _ (t : State) (d : Hearing) where
-  abbrev decoded : State
-  decoded = decodedState t (headerOf (d .frame)) (received (d .frame))
-
-  pub hearer-core : decoderAfter t d .core ≡ t .core
-  unfolding decodeState decodedState
-  hearer-core = core-kept decoded t (eqb (hearReply t d) 0) refl
-
-  pub hearer-number : decoderAfter t d .number ≡ pick (accepts t d) ((t .number + 1) % 256) (t .number)
-  unfolding decodeState decodedState numberAfter
-  hearer-number = number-moved decoded t (eqb (hearReply t d) 0) (isNumberedFrame d) ((t .number + 1) % 256) refl
+pub hearer-number : (t : State) (d : Hearing) → decoderAfter t d .number ≡ pick (accepts t d) ((t .number + 1) % 256) (t .number)
+unfolding decodeState decodedState numberAfter
+hearer-number t d = number-moved (decoded t d) t (eqb (hearReply t d) 0) (isNumberedFrame d) ((t .number + 1) % 256) refl
 
 -- one frame more, or not
 moved-small : (moves : Bool) {n : ℕ} → n < 256 → pick moves ((n + 1) % 256) n < 256

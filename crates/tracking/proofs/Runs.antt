@@ -7,12 +7,13 @@ use native.Mathlib.Omega.{arith}
 use lib.ListN.{length, getD}
 use Rattle.words.specs.Notation.{_>>_}
 use Rattle.lists.specs.Run.{last, outs}
+use Rattle.lists.proofs.Runs.{last-keeps}
 use Rattle.quantizer.specs.Pair.{Pair}
 use Rattle.state.specs.declared.memory.Memory.{Memory}
 use Rattle.state.specs.InRange.{MemoryInRange}
 use Rattle.sample.specs.Encode.{encoderNext, codewordOf}
 use Rattle.sample.specs.Decode.{decoderNext}
-use Rattle.sample.proofs.Tracks.{encode-thinned, encode-same-memory, decode-tracks, encode-codeword, encode-in-range}
+use Rattle.sample.proofs.Tracks.{encode-thinned, encode-same-memory, decode-tracks, encode-codeword, encode-in-range, decode-in-range}
 
 -- a codeword of w bits without its w - v lowest
 abbrev pub thin : ℕ → ℕ → ℕ → ℕ
@@ -48,7 +49,13 @@ module _ {core w : ℕ} (p : Pair w core) where
   codewords-short m (x ∷ xs) zero h = encode-codeword m p x .short
   codewords-short m (x ∷ xs) (suc k) h = codewords-short (encoderNext core w m x) xs k (omega arith)
 
+  -- encoding keeps a memory in range
   pub run-in-range : (m : Memory) → MemoryInRange m → (xs : List ℕ) → MemoryInRange (last (encoderNext core w) m xs)
+  run-in-range m i xs = last-keeps (encoderNext core w) MemoryInRange (λ t x j. encode-in-range t p j x) m i xs
+
+  -- and so does decoding codewords of the width
+  pub heard-in-range : (m : Memory) → MemoryInRange m → (cws : List ℕ) → ((k : ℕ) → k < length cws → getD cws k 0 < 2 ^ w) → MemoryInRange (last (decoderNext core w) m cws)
   unfolding last
-  run-in-range m i [] = i
-  run-in-range m i (x ∷ xs) = run-in-range (encoderNext core w m x) (encode-in-range m p i x) xs
+  heard-in-range m i [] short = i
+  heard-in-range m i (c ∷ cws) short =
+      heard-in-range (decoderNext core w m c) (decode-in-range m p i c (short 0 (omega arith))) cws (λ k h. short (suc k) (omega arith))

@@ -1,8 +1,8 @@
 //! The files of a folder and of the folders in it, by their names in capitals.
 
 use std::collections::BTreeMap;
-use std::fs;
 use std::path::{self, Path, PathBuf};
+use tool::folder::entries;
 
 /// A name that is there more than once means the file in the folder itself, or else the one in the first
 /// of the folders in it.
@@ -36,21 +36,10 @@ fn capitals(place: &Path) -> String {
     name.to_string_lossy().to_ascii_uppercase()
 }
 
-/// In the order of their names.
-fn entries(folder: &Path) -> Result<Vec<PathBuf>, String> {
-    let told = |error| format!("{}: {error}", folder.display());
-    let mut places: Vec<PathBuf> = fs::read_dir(folder)
-        .map_err(told)?
-        .map(|entry| entry.map(|found| found.path()))
-        .collect::<Result<_, _>>()
-        .map_err(told)?;
-    places.sort();
-    Ok(places)
-}
-
 #[cfg(test)]
 mod tests {
     use super::*;
+    use std::fs;
     use tool::scratch::{Files, Scratch};
 
     #[test]

@@ -2,6 +2,7 @@
 //! met again.
 
 pub mod states;
+pub mod texts;
 
 /// SplitMix64: a counter stepped by the golden ratio and scrambled.
 pub struct Random(u64);

@@ -3,17 +3,22 @@
 use std::fs;
 use std::path::{Path, PathBuf};
 
-/// Those with this ending, in the order of their names, since a folder has no order of its own. None
-/// at all is an error: nothing would be done, and that would look like success.
-pub fn files(folder: &Path, ending: &str) -> Result<Vec<PathBuf>, String> {
+/// All that is in it, in the order of their names, since a folder has no order of its own.
+pub fn entries(folder: &Path) -> Result<Vec<PathBuf>, String> {
     let told = |error| format!("{}: {error}", folder.display());
     let mut places: Vec<PathBuf> = fs::read_dir(folder)
         .map_err(told)?
         .map(|entry| entry.map(|found| found.path()))
         .collect::<Result<_, _>>()
         .map_err(told)?;
-    places.retain(|place| place.extension().is_some_and(|found| found == ending));
     places.sort();
+    Ok(places)
+}
+
+/// Those with this ending. None at all is an error: nothing would be done, and that would look like success.
+pub fn files(folder: &Path, ending: &str) -> Result<Vec<PathBuf>, String> {
+    let mut places = entries(folder)?;
+    places.retain(|place| place.extension().is_some_and(|found| found == ending));
     if places.is_empty() {
         return Err(format!("{}: no file *.{ending} there", folder.display()));
     }

@@ -4,8 +4,9 @@
 use super::text_parts::feed;
 use crate::call::Call;
 use crate::page::Page;
+use random::texts::{in_lines, values};
 use random::Random;
-use second::text::{write_whole, Reader};
+use second::text::Reader;
 
 const SEED: u64 = 15;
 const TEXTS: usize = 1_500;
@@ -65,29 +66,13 @@ fn some_values(random: &mut Random) -> Vec<u8> {
         1 => random.within(63, 65),
         _ => random.below(7),
     };
-    match random.below(3) {
-        0 => (0..count).map(|_| random.pick(&[0, 1, 254, 255])).collect(),
-        _ => random.bytes(count as usize),
-    }
+    values(random, count)
 }
 
 /// Lines of any length, digits of either case, and the remainder.
 fn right_text(random: &mut Random) -> Vec<u8> {
-    let mut digits = write_whole(&some_values(random));
-    digits.retain(|&character| character != b'\n');
-    let remainder = digits.split_off(digits.len() - 2);
-    let most = random.pick(&[1, 2, 3, 32]);
-    let mut text = Vec::new();
-    let mut rest = digits.as_slice();
-    while !rest.is_empty() {
-        let length = 2 * (1 + random.below(most)) as usize;
-        let (line, behind) = rest.split_at(length.min(rest.len()));
-        text.extend(line);
-        text.push(b'\n');
-        rest = behind;
-    }
-    text.extend(remainder);
-    text.push(b'\n');
+    let values = some_values(random);
+    let mut text = in_lines(random, &values);
     for character in &mut text {
         if random.below(3) == 0 {
             character.make_ascii_lowercase();

@@ -1,7 +1,6 @@
 //! Drawn texts: good ones, nearly good ones, garbage over a small alphabet.
 
-use random::Random;
-use second::text::write_whole;
+use random::{texts, Random};
 
 /// So few values that lines of 32 are still met.
 pub fn values(random: &mut Random) -> Vec<u8> {
@@ -10,29 +9,13 @@ pub fn values(random: &mut Random) -> Vec<u8> {
         1 => random.within(62, 66),
         _ => random.below(7),
     };
-    match random.below(3) {
-        0 => (0..count).map(|_| random.pick(&[0, 1, 254, 255])).collect(),
-        _ => random.bytes(count as usize),
-    }
+    texts::values(random, count)
 }
 
 /// A right text: lines of any length, digits of either case.
 pub fn good(random: &mut Random) -> Vec<u8> {
-    let plain = write_whole(&values(random));
-    let mut digits: Vec<u8> = plain.into_iter().filter(|&c| c != b'\n').collect();
-    let remainder = digits.split_off(digits.len() - 2);
-    let most = random.pick(&[1, 2, 3, 32]);
-    let mut text = Vec::new();
-    let mut rest = digits.as_slice();
-    while !rest.is_empty() {
-        let length = 2 * (1 + random.below(most)) as usize;
-        let (line, behind) = rest.split_at(length.min(rest.len()));
-        text.extend(line);
-        text.push(b'\n');
-        rest = behind;
-    }
-    text.extend(remainder);
-    text.push(b'\n');
+    let values = values(random);
+    let mut text = texts::in_lines(random, &values);
     either_case(random, &mut text);
     text
 }
