@@ -2,7 +2,7 @@
 use mathlib.Core.Bool.{Bool, true, false, _&&_}
 use mathlib.Core.List.{List, [], _∷_, _++_, append-assoc, append-nil}
 use mathlib.Core.Path.{_≡_, refl, sym, subst, _∙_}
-use Prim.Native.Nat.{ℕ, suc, _+_, _*_, _-_, _/_, _%_, _^_, _≤_, _<_}
+use Prim.Native.Nat.{ℕ, suc, _+_, _*_, _-_, _%_, _^_, _≤_, _<_}
 use native.Mathlib.Decide.{decLe}
 use native.Mathlib.Omega.{arith}
 use lib.Dec.{eqb, leb}
@@ -14,14 +14,14 @@ use Rattle.words.proofs.Pick.{cases}
 use Rattle.lists.specs.Run.{last}
 use Rattle.sequence.specs.Limits.{lineFeed, isWhole}
 use Rattle.sequence.specs.Digits.{digitOf}
-use Rattle.sequence.specs.Reading.{isRefused, refused, lineEnded, kept, handed, begun, firstDigit, heldBack, completed, secondDigit, joined, withDigit, stepOf, next, givenOf, handedOut, beginning, back, lastPlace}
+use Rattle.sequence.specs.Reading.{isRefused, refused, lineEnded, kept, handed, begun, firstDigit, heldBack, completed, secondDigit, joined, withDigit, stepOf, next, givenOf, handedOut, beginning, lastPlace}
+use Rattle.sequence.specs.declared.reader.Refusal.{Refusal}
 use Rattle.sequence.specs.declared.reader.Refusal.the-variants.{BadCharacter, LineTooLong}
 use Rattle.sequence.specs.declared.reader.Verdict.the-variants.{Sound}
 use Rattle.sequence.specs.declared.reader.Reader.{Reader}
 use Rattle.sequence.specs.declared.step.Stepped.{Stepped}
-use Rattle.sequence.proofs.Contrary.{contrary}
 use Rattle.sequence.proofs.Rows.{step-line, step-bad, step-long, step-digit}
-use Rattle.sequence.proofs.Refusing.{refused-last}
+use Rattle.sequence.proofs.Refusing.{refused-last, refused-hands}
 
 -- the value whose digits stand at a place
 abbrev pub valueAt : List ℕ → ℕ → ℕ
@@ -34,10 +34,11 @@ lastOf vs = getD vs (length vs - 1) 0
 pub record Lastly (t H : List ℕ) (n k : ℕ) : Type 0 where
   pub at : 0 < length H → (k ≤ n) × (n - k + 1 < length t) × (valueAt t (n - k) ≡ lastOf H)
 
-module _ (t : List ℕ) (c : ℕ) where
-  value-stays : (p : ℕ) → p + 1 < length t → valueAt (t ++ c ∷ []) p ≡ valueAt t p
-  value-stays p h = rw (List·getD-append t (c ∷ []) 0 p (omega arith), List·getD-append t (c ∷ []) 0 (suc p) (omega arith))
+-- whatever is read behind them, its digits stay where they are
+value-stays : (t more : List ℕ) (p : ℕ) → p + 1 < length t → valueAt (t ++ more) p ≡ valueAt t p
+value-stays t more p h = rw (List·getD-append t more 0 p (omega arith), List·getD-append t more 0 (suc p) (omega arith))
 
+module _ (t : List ℕ) (c : ℕ) where
   longer : length (t ++ c ∷ []) ≡ suc (length t)
   longer = simp length-append (omega arith)
 
@@ -57,7 +58,7 @@ module _ (t : List ℕ) (c : ℕ) where
             let same : m - j ≡ n - k = omega arith in (
               omega arith,
               rw (same, longer) (omega arith),
-              rw (same, append-nil) (value-stays (n - k) high ∙ before .2),
+              rw (same, append-nil) (value-stays t (c ∷ []) (n - k) high ∙ before .2),
             );
       }
 
@@ -134,7 +135,7 @@ module _ (t : List ℕ) (r : Reader) (H : List ℕ) (c : ℕ) (d : digitOf c < 1
       let spot : r .line - 3 ≡ q = omega arith in
       subst Next (sym is)
       (first (on 0 true false (handed (begun r (digitOf c)) (r .held) .reader) a refl refl (omega arith) refl) (rw mine) (rw mine d)
-      (lastly-new t c H (r .held) (r .line) 3 (omega arith) (omega arith) (rw spot (value-stays t c q (omega arith) ∙ sym h))))
+      (lastly-new t c H (r .held) (r .line) 3 (omega arith) (omega arith) (rw spot (value-stays t (c ∷ []) q (omega arith) ∙ sym h))))
 
   from-first : Read t r 1 false → r .high ≡ digitOf (getD t (r .line) 0) → digitOf (getD t (r .line) 0) < 16 → Lastly t H (r .line) 3 → Next (withDigit r (digitOf c))
   unfolding Next withDigit secondDigit
@@ -156,7 +157,7 @@ module _ (t : List ℕ) (r : Reader) (H : List ℕ) (c : ℕ) (d : digitOf c < 1
       let spot : r .line + 3 - 3 ≡ r .line = omega arith in
       subst Next (sym is)
       (odd 3 (on 2 true false (handed (begun r (digitOf c)) (r .held) .reader) a refl refl (omega arith) refl) (omega arith) refl (length t) (sym (longer t c)) (rw mine) (rw mine d)
-      (lastly-new t c H (r .held) (r .line + 3) 3 (omega arith) (omega arith) (rw spot (value-stays t c (r .line) (omega arith) ∙ sym h))))
+      (lastly-new t c H (r .held) (r .line + 3) 3 (omega arith) (omega arith) (rw spot (value-stays t (c ∷ []) (r .line) (omega arith) ∙ sym h))))
 
   from-odd : (n : ℕ) → Read t r n false → 3 ≤ n → n % 2 ≡ 1 → (q : ℕ) → suc q ≡ length t → r .high ≡ digitOf (getD t q 0) → digitOf (getD t q 0) < 16 → Next (withDigit r (digitOf c))
   unfolding Next withDigit secondDigit
@@ -217,93 +218,101 @@ module _ (t : List ℕ) (r : Reader) (H : List ℕ) (c : ℕ) (whole : isWhole (
   form-line (one a h l) =
       let size = a .size in
       let next-line = starts 2 true a in
-      alone (ended 2 true a) (r .line) (omega arith) (h ∙ sym (value-stays t c (r .line) (omega arith))) (lastly-keeps t c l (omega arith))
+      alone (ended 2 true a) (r .line) (omega arith) (h ∙ sym (value-stays t (c ∷ []) (r .line) (omega arith))) (lastly-keeps t c l (omega arith))
   form-line (odd n a three half q e h small l) = absurd (let column = a .column in let half-too = is-even in omega arith)
   form-line (even n a four half l) =
       let next-line = starts n false a in
       start (ended n false a) (lastly-keeps t c l (omega arith))
 
+-- the value that was handed out last, if any was, stands where `last_place` says
+Stands : List ℕ → Reader → List ℕ → Type 0
+Stands t r H = 0 < length H → (lastPlace r + 1 < length t) × (valueAt t (lastPlace r) ≡ lastOf H)
+
+module _ (t : List ℕ) (r : Reader) (H : List ℕ) (bound : length t < 2 ^ 64) where
+  -- at n - k, which is where it stands
+  stands-at : (n k : ℕ) → Lastly t H n k → (k ≤ n → n - k + 1 < length t → lastPlace r ≡ n - k) → Stands t r H
+  unfolding Stands
+  stands-at n k l is some =
+      let at = l .at some in
+      rw (is (at .0) (at .1)) (at .1, at .2)
+
+  -- in the first columns it stands before the line
+  before : (n : ℕ) (b : Bool) → Read t r n b → n ≤ 2 → eqb (r .column) 0 && r .holds ≡ false → Lastly t H (r .line) 3 → Stands t r H
+  unfolding lastPlace
+  before n b a few none l =
+      let size = a .size in
+      let column = a .column in
+      stands-at (r .line) 3 l (λ low high. rw (lt-leb 3 (r .column) (omega arith), none) (omega arith))
+
+  behind : (n k : ℕ) (b : Bool) → Read t r n b → 3 ≤ n → 2 + n % 2 ≡ k → Lastly t H (r .line + n) k → Stands t r H
+  unfolding lastPlace
+  behind n k b a three half l =
+      let size = a .size in
+      let column = a .column in
+      stands-at (r .line + n) k l (λ low high. rw (le-leb 3 (r .column) (omega arith)) (omega arith))
+
+  stands : Form t r H → Stands t r H
+  unfolding lastPlace
+  stands (start a l) = before 0 false a (omega arith) (rw (a .column, a .holds-is)) l
+  stands (alone a q e h l) =
+      let size = a .size in
+      let column = a .column in
+      stands-at (r .line) 6 l (λ low high. rw (lt-leb 3 (r .column) (omega arith), eq-eqb (r .column) 0 column, a .holds-is) (omega arith))
+  stands (first a h small l) = before 1 false a (omega arith) (rw (a .column)) l
+  stands (one a h l) = before 2 true a (omega arith) (rw (a .column)) l
+  stands (odd n a three half q e h small l) = behind n 3 false a three (omega arith) l
+  stands (even n a four half l) = behind n 2 false a (omega arith) (omega arith) l
+
 module _ (t : List ℕ) (r : Reader) (H : List ℕ) (c : ℕ) (cs : List ℕ) (f : Form t r H) (bound : suc (length t) < 2 ^ 64) where
   Further : Stepped → Type 0
-  Further s = isRefused (last next (s .reader) cs .verdict) ≡ false → Form (t ++ c ∷ cs) (last next (s .reader) cs) (H ++ (givenOf s ++ handedOut (s .reader) cs))
+  Further s = Stands (t ++ c ∷ cs) (last next (s .reader) cs) (H ++ (givenOf s ++ handedOut (s .reader) cs))
 
   sound : isRefused (r .verdict) ≡ false
   sound = rw (form-sound t r H f)
 
-  further-refused : (s : Reader) → isRefused (s .verdict) ≡ true → Further (kept s)
-  unfolding Further
-  further-refused s e u = absurd (contrary e (rw (refused-last s e cs) at u))
+  -- a refused reader keeps what the place is told by
+  further-refused : (why : Refusal) → Further (kept (refused r why))
+  unfolding Further Stands lastPlace
+  further-refused why =
+      rw (refused-last (refused r why) refl cs, refused-hands (refused r why) refl cs, append-nil)
+      (λ some.
+      let at = stands t r H (omega arith) f some in
+      (rw length-append (omega (arith, at .0)), value-stays t (c ∷ cs) (lastPlace r) (at .0) ∙ at .1))
 
   -- the rest, from the form that a step leaves
-  further-on : (s : Stepped) → (isRefused (last next (s .reader) cs .verdict) ≡ false → Form ((t ++ c ∷ []) ++ cs) (last next (s .reader) cs) ((H ++ givenOf s) ++ handedOut (s .reader) cs)) → Further s
+  further-on : (s : Stepped) → Stands ((t ++ c ∷ []) ++ cs) (last next (s .reader) cs) ((H ++ givenOf s) ++ handedOut (s .reader) cs) → Further s
   unfolding Further
-  further-on s later u = rw (append-assoc t (c ∷ []) cs, append-assoc H (givenOf s) (handedOut (s .reader) cs)) at (later u)
+  further-on s later = rw (append-assoc t (c ∷ []) cs, append-assoc H (givenOf s) (handedOut (s .reader) cs)) at later
 
-  by-line : eqb c lineFeed && isWhole (r .column) ≡ true → ((g : Form (t ++ c ∷ []) (lineEnded r) (H ++ [])) → isRefused (last next (lineEnded r) cs .verdict) ≡ false → Form ((t ++ c ∷ []) ++ cs) (last next (lineEnded r) cs) ((H ++ []) ++ handedOut (lineEnded r) cs))
+  by-line : eqb c lineFeed && isWhole (r .column) ≡ true → ((g : Form (t ++ c ∷ []) (lineEnded r) (H ++ [])) → Stands ((t ++ c ∷ []) ++ cs) (last next (lineEnded r) cs) ((H ++ []) ++ handedOut (lineEnded r) cs))
       → Further (stepOf r c)
   by-line e later =
       let whole = both (eqb c lineFeed) (isWhole (r .column)) e .1 in
       subst Further (sym (step-line r c sound e)) (further-on (kept (lineEnded r)) (later (form-line t r H c whole bound f)))
 
   by-character : eqb c lineFeed && isWhole (r .column) ≡ false → Dec (16 ≤ digitOf c) → Dec (64 ≤ r .column)
-      → ((g : Form (t ++ c ∷ []) (withDigit r (digitOf c) .reader) (H ++ givenOf (withDigit r (digitOf c)))) → isRefused (last next (withDigit r (digitOf c) .reader) cs .verdict) ≡ false → Form ((t ++ c ∷ []) ++ cs) (last next (withDigit r (digitOf c) .reader) cs) ((H ++ givenOf (withDigit r (digitOf c))) ++ handedOut (withDigit r (digitOf c) .reader) cs))
+      → ((g : Form (t ++ c ∷ []) (withDigit r (digitOf c) .reader) (H ++ givenOf (withDigit r (digitOf c)))) → Stands ((t ++ c ∷ []) ++ cs) (last next (withDigit r (digitOf c) .reader) cs) ((H ++ givenOf (withDigit r (digitOf c))) ++ handedOut (withDigit r (digitOf c) .reader) cs))
       → Further (stepOf r c)
-  by-character e (yes bad) long later = subst Further (sym (step-bad r c sound e bad)) (further-refused (refused r BadCharacter) refl)
-  by-character e (no digit) (yes long) later = subst Further (sym (step-long r c sound e (omega arith) long)) (further-refused (refused r LineTooLong) refl)
+  by-character e (yes bad) long later = subst Further (sym (step-bad r c sound e bad)) (further-refused BadCharacter)
+  by-character e (no digit) (yes long) later = subst Further (sym (step-long r c sound e (omega arith) long)) (further-refused LineTooLong)
   by-character e (no digit) (no short) later =
       let d : digitOf c < 16 = omega arith in
       subst Further (sym (step-digit r c sound e d (omega arith))) (further-on (withDigit r (digitOf c)) (later (form-digit t r H c d f)))
 
-forms : (cs t : List ℕ) (r : Reader) (H : List ℕ) → Form t r H → length t + length cs < 2 ^ 64 → isRefused (last next r cs .verdict) ≡ false → Form (t ++ cs) (last next r cs) (H ++ handedOut r cs)
+stands-behind : (cs t : List ℕ) (r : Reader) (H : List ℕ) → Form t r H → length t + length cs < 2 ^ 64 → Stands (t ++ cs) (last next r cs) (H ++ handedOut r cs)
 unfolding last handedOut Further
-forms [] t r H f bound u = rw (append-nil t, append-nil H) f
-forms (c ∷ cs) t r H f bound u =
+stands-behind [] t r H f bound = rw (append-nil t, append-nil H) (stands t r H (omega arith) f)
+stands-behind (c ∷ cs) t r H f bound =
     let more = longer t c in
     cases (eqb c lineFeed && isWhole (r .column))
-    (λ e. by-line t r H c cs f (omega arith) e (λ g. forms cs (t ++ c ∷ []) (lineEnded r) (H ++ []) g (omega arith)) u)
-    (λ e. by-character t r H c cs f (omega arith) e (decLe 16 (digitOf c)) (decLe 64 (r .column)) (λ g. forms cs (t ++ c ∷ []) (withDigit r (digitOf c) .reader) (H ++ givenOf (withDigit r (digitOf c))) g (omega arith)) u)
+    (λ e. by-line t r H c cs f (omega arith) e (λ g. stands-behind cs (t ++ c ∷ []) (lineEnded r) (H ++ []) g (omega arith)))
+    (λ e. by-character t r H c cs f (omega arith) e (decLe 16 (digitOf c)) (decLe 64 (r .column)) (λ g. stands-behind cs (t ++ c ∷ []) (withDigit r (digitOf c) .reader) (H ++ givenOf (withDigit r (digitOf c))) g (omega arith)))
 
 begins : Form [] beginning []
 begins = start (record { sound = refl; size = refl; column = refl; holds-is = refl }) (record { at = λ some. absurd (omega arith) })
 
-module _ (t : List ℕ) (r : Reader) (H : List ℕ) (bound : length t < 2 ^ 64) (some : 0 < length H) where
-  -- in the first columns it stands before the line
-  before : (n : ℕ) (b : Bool) → Read t r n b → n ≤ 2 → eqb (r .column) 0 && r .holds ≡ false → Lastly t H (r .line) 3 → valueAt t (lastPlace r) ≡ lastOf H
-  unfolding lastPlace
-  before n b a few none l =
-      let size = a .size in
-      let column = a .column in
-      let at = l .at some in
-      let low = at .0 in
-      let is : back 3 (r .line) ≡ r .line - 3 = omega arith in
-      rw (lt-leb 3 (r .column) (omega arith), none, is) (at .2)
-
-  spot : Form t r H → valueAt t (lastPlace r) ≡ lastOf H
-  unfolding lastPlace
-  spot (start a l) = before 0 false a (omega arith) (rw (a .column, a .holds-is)) l
-  spot (alone a q e h l) =
-      let size = a .size in
-      let column = a .column in
-      let at = l .at some in
-      let low = at .0 in
-      let is : back 6 (r .line) ≡ r .line - 6 = omega arith in
-      rw (lt-leb 3 (r .column) (omega arith), eq-eqb (r .column) 0 column, a .holds-is, is) (at .2)
-  spot (first a h small l) = before 1 false a (omega arith) (rw (a .column)) l
-  spot (one a h l) = before 2 true a (omega arith) (rw (a .column)) l
-  spot (odd n a three half q e h small l) =
-      let size = a .size in
-      let column = a .column in
-      let at = l .at some in
-      let is : (r .line + (2 * (r .column / 2) - 2)) % 2 ^ 64 ≡ r .line + n - 3 = omega arith in
-      rw (le-leb 3 (r .column) (omega arith), is) (at .2)
-  spot (even n a four half l) =
-      let size = a .size in
-      let column = a .column in
-      let at = l .at some in
-      let is : (r .line + (2 * (r .column / 2) - 2)) % 2 ^ 64 ≡ r .line + n - 2 = omega arith in
-      rw (le-leb 3 (r .column) (omega arith), is) (at .2)
-
--- the value that was handed out last stands where `last_place` says
-pub last-place-right : (text : List ℕ) → length text < 2 ^ 64 → isRefused (last next beginning text .verdict) ≡ false → 0 < length (handedOut beginning text)
+-- the value that was handed out last stands where `last_place` says, also where the text was refused behind it
+pub last-place-right : (text : List ℕ) → length text < 2 ^ 64 → 0 < length (handedOut beginning text)
     → valueAt text (lastPlace (last next beginning text)) ≡ lastOf (handedOut beginning text)
-last-place-right text bound sound some = spot text (last next beginning text) (handedOut beginning text) bound some (forms text [] beginning [] begins (omega arith) sound)
+unfolding Stands
+last-place-right text bound some = stands-behind text [] beginning [] begins (omega arith) some .1
