@@ -10,7 +10,6 @@ use crate::saying::say_octets;
 use crate::writers::say_writer;
 use crate::writers::writer_in;
 use sequence::reader;
-use sequence::writer;
 
 pub fn answer_read(number: u64, line: &[u8]) {
     if !fits(number, line, b"rxx") {
@@ -52,7 +51,7 @@ pub fn answer_write(number: u64, line: &[u8]) {
 
 fn write_line(line: &[u8], values: &[u8], text: &mut [u8]) {
     let w = writer_in(part(line, 1, b' '));
-    let answer = writer::write(w, values, text);
+    let answer = sequence_writer::write(w, values, text);
     let next = answer.writer;
     say_counts(answer.taken, answer.written);
     say_octets(text);
@@ -63,7 +62,7 @@ pub fn answer_end_values(number: u64, line: &[u8]) {
     if !fits(number, line, b"w") {
         return;
     }
-    say_writer(writer::end(writer_in(part(line, 1, b' '))));
+    say_writer(sequence_writer::end(writer_in(part(line, 1, b' '))));
 }
 
 fn say_counts(taken: usize, written: usize) {

@@ -3,8 +3,8 @@ use crate::fields::has_part;
 use crate::readers::number_at;
 use crate::readers::octet_at;
 use libc::STDOUT_FILENO;
-use sequence::writer::Stage;
-use sequence::writer::Writer;
+use sequence_writer::Stage;
+use sequence_writer::Writer;
 use text::Line;
 
 pub fn is_writer(field: &[u8]) -> bool {

@@ -4,7 +4,6 @@ pub mod Rows
 pub mod Underway
 pub mod Taking
 pub mod Going
-pub mod Laying
 pub mod Refusing
 pub mod Cuts
 pub mod Onward
@@ -12,12 +11,6 @@ pub mod Lines
 pub mod Standing
 pub mod Whole
 pub mod Fronts
-pub mod Capitals
-pub mod Octets
-pub mod Return
 pub mod Case
-pub mod Coming
-pub mod Layouts
-pub mod Progress
 pub mod Tight
 pub mod Spots

@@ -1,4 +1,4 @@
--- What holds of every answer of read and write: the contract leaves no choice, what is reported fits what was lent, and a call with room gets on.
+-- What holds of every answer of read: the contract leaves no choice (of write too), what is reported fits what was lent, and a call with room gets on.
 use mathlib.Core.Bool.{false}
 use mathlib.Core.List.{List, [], _∷_}
 use mathlib.Core.Path.{_≡_, sym, _∙_}
@@ -9,12 +9,9 @@ use lib.ListN.{length, length-append}
 use Rattle.words.proofs.Pick.{cases, by-pick}
 use Rattle.sequence.specs.Piece.{Piece, stop, further, Fills}
 use Rattle.sequence.specs.Reading.{isRefused, stepOf, next, givenOf, given, reading, Reads}
-use Rattle.sequence.specs.Writing.{Writes}
 use Rattle.sequence.specs.declared.reader.Reader.{Reader}
 use Rattle.sequence.specs.declared.reader.ReadAnswer.{ReadAnswer}
 use Rattle.sequence.specs.declared.step.Stepped.{Stepped}
-use Rattle.sequence.specs.declared.writer.Writer.{Writer}
-use Rattle.sequence.specs.declared.writer.WriteAnswer.{WriteAnswer}
 use Rattle.sequence.proofs.Contrary.{contrary}
 use Rattle.sequence.proofs.Taking.{reading-refused, reading-full, reading-more}
 
@@ -35,10 +32,6 @@ module _ {S : Type 0} {p : Piece S} {before after after′ : List ℕ} {s s′ :
 pub read-equal : (r : Reader) (text before after after′ : List ℕ) (a b : ReadAnswer) → Reads r text before after a → Reads r text before after′ b → (a ≡ b) × (after ≡ after′)
 read-equal r text before after after′ a b p q =
     (λ i. record { reader = same-state p q i; taken = same-taken p q i; written = same-written p q i }, same-out p q)
-
-pub write-equal : (w : Writer) (values before after after′ : List ℕ) (a b : WriteAnswer) → Writes w values before after a → Writes w values before after′ b → (a ≡ b) × (after ≡ after′)
-write-equal w values before after after′ a b p q =
-    (λ i. record { writer = same-state p q i; taken = same-taken p q i; written = same-written p q i }, same-out p q)
 
 -- one character gives at most one value
 given-few : (s : Stepped) → length (givenOf s) ≤ 1

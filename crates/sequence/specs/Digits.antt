@@ -1,6 +1,6 @@
--- Hexadecimal digits as characters: read in either case of letter, written in capitals.
+-- Hexadecimal digits as characters, in either case of letter.
 use mathlib.Core.Bool.{Bool}
-use Prim.Native.Nat.{ℕ, _+_, _-_}
+use Prim.Native.Nat.{ℕ, _-_}
 use lib.Dec.{ltb}
 use Rattle.words.specs.Notation.{_when_∣_}
 use Rattle.words.specs.Within.{within}
@@ -11,10 +11,6 @@ digitOf c = c - 48 when within 48 57 c ∣ c - 55 when within 65 70 c ∣ c - 87
 
 abbrev pub isDigit : ℕ → Bool
 isDigit c = ltb (digitOf c) 16
-
--- "in capitals"
-unfoldable pub capital : ℕ → ℕ
-capital d = 48 + d when ltb d 10 ∣ 55 + d
 
 -- the capital of a letter from a to f, and every other character as it is
 abbrev pub upper : ℕ → ℕ

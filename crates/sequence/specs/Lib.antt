@@ -3,6 +3,4 @@ pub mod Digits
 pub mod Piece
 pub mod Reading
 pub mod Text
-pub mod Layout
-pub mod Writing
 pub mod Inner

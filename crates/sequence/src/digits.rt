@@ -1,7 +1,6 @@
-// Hexadecimal digits as characters: read in either case of letter, written in capitals.
+// Hexadecimal digits as characters, in either case of letter.
 ghost use mathlib.Core.Path.{_≡_};
-ghost use Prim.Native.Nat.{_<_};
-ghost use Rattle.sequence.specs.Digits.{digitOf, capital};
+ghost use Rattle.sequence.specs.Digits.{digitOf};
 
 // What digit_of answers where there is none
 pub const NO_DIGIT: u8 = 16;
@@ -28,14 +27,4 @@ pub fn digit_of(character: u8) -> u8
         return character - b'a' + 10;
     }
     NO_DIGIT
-}
-
-pub fn capital(digit: u8) -> u8
-    requires { ⌜ digit < 16 ⌝ }
-    ensures { λ r. ⌜ r ≡ capital digit ⌝ }
-{
-    if digit < 10 {
-        return b'0' + digit;
-    }
-    b'A' - 10 + digit
 }

@@ -1,8 +1,7 @@
-// The text of a test sequence, read and written in pieces (docs/RULES.md, "The text of a sequence"). It knows nothing of
-// codecs.
+// The text of a test sequence, read in pieces (docs/RULES.md, "The text of a sequence"); sequence_writer writes it. It knows nothing
+// of codecs.
 mod digits;
-mod limits;
-mod modular;
+pub mod limits;
+pub mod modular;
 pub mod reader;
 mod step;
-pub mod writer;

@@ -5,8 +5,7 @@ use crate::streaming::Way;
 use command_line::program::Program;
 use command_line::program::say_unwritten;
 use libc::STDOUT_FILENO;
-use sequence::writer;
-use sequence::writer::Writer;
+use sequence_writer::Writer;
 use text::within;
 
 // Characters of a piece's text: two of each of 4,096 values, a line feed behind 32 of them, and to spare
@@ -34,13 +33,13 @@ pub fn put(way: Way, from: Writer, values: &[u8]) -> Output {
 
 // The remainder, and what is left of the line before it
 pub fn put_end(way: Way, from: Writer) -> bool {
-    let put = put(way, writer::end(from), b"");
+    let put = put(way, sequence_writer::end(from), b"");
     put.good
 }
 
 fn put_text(from: Writer, values: &[u8]) -> Output {
     let mut text = room();
-    let answer = writer::write(from, values, &mut text);
+    let answer = sequence_writer::write(from, values, &mut text);
     let n = within(answer.written, &text);
     let behind = answer.writer;
     Output {

@@ -11,8 +11,7 @@ use sequence::reader;
 use sequence::reader::Reader;
 use sequence::reader::is_refused;
 use sequence::reader::last_place;
-use sequence::writer;
-use sequence::writer::Writer;
+use sequence_writer::Writer;
 use text::within;
 
 // Between two pieces: whether there may be a next one, whether nothing went wrong, the text that is read, the text that is
@@ -41,7 +40,7 @@ pub fn first_turn(codec: Codec) -> Turn
         more: true,
         good: true,
         reader: reader::begin(),
-        writer: writer::begin(),
+        writer: sequence_writer::begin(),
         codec,
     }
 }

@@ -1,0 +1,16 @@
+-- `sequence::writer::second_digit` meets its contract.
+use borrow.Author.Needs.{needs}
+use Rattle.sequence_writer.proofs.second_digit.Statement.{statement}
+use Rattle.sequence_writer.proofs.second_digit.Tie as tie
+
+wrapping-add-u8-requires : tie.Need-wrapping-add-u8-requires
+wrapping-add-u8-requires c κs = search needs
+
+capital-requires : tie.Need-capital-requires
+capital-requires c κs = search needs
+
+returns : tie.Need-returns
+returns c = cc
+
+pub second-digit-spec : {M : Type 1} → statement M
+second-digit-spec = tie.close (tie.spec wrapping-add-u8-requires capital-requires returns)
