@@ -1,4 +1,4 @@
--- `sequence::writer::awaits` meets its contract.
+-- `sequence_writer::awaits` meets its contract.
 use borrow.Author.Needs.{needs}
 use Rattle.sequence_writer.proofs.awaits.Statement.{statement}
 use Rattle.sequence_writer.proofs.awaits.Tie as tie

@@ -1,4 +1,4 @@
--- `sequence::writer::closed` meets its contract. What was found by search stands here, so that a fault is told where it is.
+-- `sequence_writer::closed` meets its contract. What was found by search stands here, so that a fault is told where it is.
 use borrow.Author.Needs.{needs}
 use Rattle.sequence_writer.proofs.closed.Statement.{statement}
 use Rattle.sequence_writer.proofs.closed.Tie as tie

@@ -1,4 +1,4 @@
--- `sequence::writer::end` meets its contract.
+-- `sequence_writer::end` meets its contract.
 use borrow.Author.Needs.{needs}
 use Rattle.sequence_writer.proofs.end.Statement.{statement}
 use Rattle.sequence_writer.proofs.end.Tie as tie

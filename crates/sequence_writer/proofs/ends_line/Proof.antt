@@ -1,4 +1,4 @@
--- `sequence::writer::ends_line` meets its contract.
+-- `sequence_writer::ends_line` meets its contract.
 use borrow.Author.Needs.{needs}
 use Rattle.sequence_writer.proofs.ends_line.Statement.{statement}
 use Rattle.sequence_writer.proofs.ends_line.Tie as tie

@@ -1,4 +1,4 @@
--- `sequence::writer::fed` meets its contract.
+-- `sequence_writer::fed` meets its contract.
 use borrow.Author.Needs.{needs}
 use Rattle.sequence_writer.proofs.fed.Statement.{statement}
 use Rattle.sequence_writer.proofs.fed.Tie as tie

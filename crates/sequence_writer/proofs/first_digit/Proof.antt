@@ -1,4 +1,4 @@
--- `sequence::writer::first_digit` meets its contract.
+-- `sequence_writer::first_digit` meets its contract.
 use borrow.Author.Needs.{needs}
 use Rattle.sequence_writer.proofs.first_digit.Statement.{statement}
 use Rattle.sequence_writer.proofs.first_digit.Tie as tie

@@ -1,4 +1,4 @@
--- `sequence::writer::next` meets its contract.
+-- `sequence_writer::next` meets its contract.
 use borrow.Author.Needs.{needs}
 use mathlib.Core.Path.{sym, _∙_}
 use borrow.Author.Tests.{eq-eqb, ne-eqb}

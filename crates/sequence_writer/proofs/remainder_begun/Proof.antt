@@ -1,4 +1,4 @@
--- `sequence::writer::remainder_begun` meets its contract.
+-- `sequence_writer::remainder_begun` meets its contract.
 use borrow.Author.Needs.{needs}
 use Rattle.sequence_writer.proofs.remainder_begun.Statement.{statement}
 use Rattle.sequence_writer.proofs.remainder_begun.Tie as tie

@@ -1,4 +1,4 @@
--- `sequence::writer::second_digit` meets its contract.
+-- `sequence_writer::second_digit` meets its contract.
 use borrow.Author.Needs.{needs}
 use Rattle.sequence_writer.proofs.second_digit.Statement.{statement}
 use Rattle.sequence_writer.proofs.second_digit.Tie as tie

@@ -1,4 +1,4 @@
--- `sequence::writer::value_at` meets its contract.
+-- `sequence_writer::value_at` meets its contract.
 use borrow.Author.Needs.{needs}
 use mathlib.Core.Path.{sym}
 use lib.ListN.{List·getD-eq-default}

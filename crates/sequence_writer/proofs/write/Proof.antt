@@ -1,4 +1,4 @@
--- `sequence::writer::write` meets its contract. What is left of the values, written from here into the room that is left, makes the rest of the piece.
+-- `sequence_writer::write` meets its contract. What is left of the values, written from here into the room that is left, makes the rest of the piece.
 use mathlib.Core.Bool.{Bool}
 use mathlib.Core.Path.{ap, _∙_}
 use Prim.Native.Nat.{_+_, _-_, _≤_}

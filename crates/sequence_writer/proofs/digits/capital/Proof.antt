@@ -1,4 +1,4 @@
--- `sequence::digits::capital` meets its contract.
+-- `sequence_writer::digits::capital` meets its contract.
 use borrow.Author.Needs.{needs}
 use borrow.Author.Tests.{lt-ltb, le-ltb}
 use Rattle.sequence_writer.specs.Layout.{capital}
