@@ -7,7 +7,7 @@ is-values-requires : tie.Need-is-values-requires
 is-values-requires c κs = search needs
 
 returns : tie.Need-returns
-returns c = cc
+returns c = rw (c .before .before .is-values .ensures)
 
 pub awaits-spec : {M : Type 1} → statement M
 awaits-spec = tie.close (tie.spec is-values-requires returns)

@@ -10,7 +10,7 @@ is-closing-requires : tie.Need-is-closing-requires
 is-closing-requires c κs = search needs
 
 returns : tie.Need-returns
-returns c = cc
+returns c = rw (c .before .is-closing .ensures, c .before .before .before .is-remainder .ensures)
 
 pub ends-line-spec : {M : Type 1} → statement M
 ends-line-spec = tie.close (tie.spec is-remainder-requires is-closing-requires returns)

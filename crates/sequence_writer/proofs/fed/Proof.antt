@@ -7,7 +7,7 @@ behind-line-requires : tie.Need-behind-line-requires
 behind-line-requires c κs = search needs
 
 returns : tie.Need-returns
-returns c = cc
+returns c = rw (c .behind-line .ensures)
 
 pub fed-spec : {M : Type 1} → statement M
 fed-spec = tie.close (tie.spec behind-line-requires returns)

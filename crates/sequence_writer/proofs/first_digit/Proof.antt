@@ -13,7 +13,7 @@ capital-requires : tie.Need-capital-requires
 capital-requires c κs = search needs
 
 returns : tie.Need-returns
-returns c = cc
+returns c = rw (c .capital .ensures, c .before .added .ensures, c .before .before .wrapping-add-u8 .ensures)
 
 pub first-digit-spec : {M : Type 1} → statement M
 first-digit-spec =

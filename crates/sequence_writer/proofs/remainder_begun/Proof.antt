@@ -10,7 +10,7 @@ capital-requires : tie.Need-capital-requires
 capital-requires c κs = search needs
 
 returns : tie.Need-returns
-returns c = cc
+returns c = rw (c .capital .ensures, c .before .remainder-of .ensures)
 
 pub remainder-begun-spec : {M : Type 1} → statement M
 remainder-begun-spec = tie.close (tie.spec remainder-of-requires capital-requires returns)

@@ -10,7 +10,7 @@ capital-requires : tie.Need-capital-requires
 capital-requires c κs = search needs
 
 returns : tie.Need-returns
-returns c = cc
+returns c = rw (c .capital .ensures, c .before .before .wrapping-add-u8 .ensures)
 
 pub second-digit-spec : {M : Type 1} → statement M
 second-digit-spec = tie.close (tie.spec wrapping-add-u8-requires capital-requires returns)

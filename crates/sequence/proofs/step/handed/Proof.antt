@@ -7,7 +7,7 @@ added-requires : tie.Need-added-requires
 added-requires c κs = search needs
 
 returns : tie.Need-returns
-returns c = cc
+returns c = rw (c .added .ensures)
 
 pub handed-spec : {M : Type 1} → statement M
 handed-spec = tie.close (tie.spec added-requires returns)

@@ -10,7 +10,7 @@ wrapping-add-u64-requires : tie.Need-wrapping-add-u64-requires
 wrapping-add-u64-requires c κs = search needs
 
 returns : tie.Need-returns
-returns c = cc
+returns c = rw (c .wrapping-add-u64 .ensures, c .before .place-of .ensures)
 
 pub line-ended-spec : {M : Type 1} → statement M
 line-ended-spec = tie.close (tie.spec place-of-requires wrapping-add-u64-requires returns)
