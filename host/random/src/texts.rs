@@ -30,3 +30,17 @@ pub fn in_lines(random: &mut Random, values: &[u8]) -> Vec<u8> {
     text.push(b'\n');
     text
 }
+
+/// Digits of either case, line feeds, and characters that no text has.
+pub const CHARACTERS: &[u8] = b"0019aFf\n\n\nG \r";
+
+/// Makes a text nearly good: there the character is put in another's place or before it, one is removed,
+/// or the end is cut off.
+pub fn slip(random: &mut Random, text: &mut Vec<u8>, place: usize, character: u8) {
+    match random.below(4) {
+        0 => text[place] = character,
+        1 => drop(text.remove(place)),
+        2 => text.insert(place, character),
+        _ => text.truncate(place),
+    }
+}

@@ -4,7 +4,7 @@
 use super::text_parts::feed;
 use crate::call::Call;
 use crate::page::Page;
-use random::texts::{in_lines, values};
+use random::texts::{in_lines, slip, values, CHARACTERS};
 use random::Random;
 use second::text::Reader;
 
@@ -81,26 +81,19 @@ fn right_text(random: &mut Random) -> Vec<u8> {
     text
 }
 
-const SOME: &[u8] = b"0019aFf\n\n\nG \r";
-
 fn spoilt(random: &mut Random) -> Vec<u8> {
     let mut text = right_text(random);
     let place = random.below(text.len() as u64) as usize;
     let character = match random.below(8) {
         0 => random.byte(),
-        _ => random.pick(SOME),
+        _ => random.pick(CHARACTERS),
     };
-    match random.below(4) {
-        0 => text[place] = character,
-        1 => drop(text.remove(place)),
-        2 => text.insert(place, character),
-        _ => text.truncate(place),
-    }
+    slip(random, &mut text, place, character);
     text
 }
 
 fn garbage(random: &mut Random) -> Vec<u8> {
-    let alphabet = random.pick(&[SOME, b"000000000000\n\n"]);
+    let alphabet = random.pick(&[CHARACTERS, b"000000000000\n\n"]);
     let length = random.below(24);
     (0..length).map(|_| random.pick(alphabet)).collect()
 }

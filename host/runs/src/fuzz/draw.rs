@@ -40,19 +40,16 @@ fn with_wrong_words(mut draft: Draft, random: &mut Random) -> Given {
 #[cfg(test)]
 mod tests {
     use super::*;
+    use crate::fuzz::drawn::{self, COUNT};
     use std::collections::BTreeSet;
 
-    const COUNT: usize = 3_000;
-
     fn drawn(seed: u64) -> Vec<(Aim, Given)> {
-        let mut random = Random::new(seed);
-        (0..COUNT).map(|_| draw(&mut random)).collect()
+        drawn::drawn(draw, seed)
     }
 
     #[test]
     fn a_seed_fixes_the_calls() {
-        assert_eq!(drawn(7), drawn(7));
-        assert_ne!(drawn(7), drawn(8));
+        drawn::a_seed_fixes_the_calls(draw);
     }
 
     #[test]
@@ -64,18 +61,13 @@ mod tests {
         }
     }
 
-    /// Commands, options and kinds of files, each with the words that are fitting.
     #[test]
     fn every_part_of_the_grammar_is_drawn() {
-        let fitting = drawn(2).into_iter().filter(|(aim, _)| *aim == Aim::Done);
-        let calls: Vec<Given> = fitting.map(|(_, given)| given).collect();
-        for word in [
+        let words = [
             "encode", "drop", "decode", "inspect", "mu", "a", "-v", "-states", "-most", "-list",
             "-", "in", "./160", "./-", "out", "./8", "s", "./7", "w", "320",
-        ] {
-            let met = calls.iter().filter(|g| g.words.contains(&word.into()));
-            assert!(met.count() > 2, "{word}");
-        }
+        ];
+        drawn::every_word_is_drawn(draw, &words);
     }
 
     /// The word behind LAW, WIDTH, CORE and SAMPLES, and the first bits of what goes in.

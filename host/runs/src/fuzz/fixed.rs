@@ -12,11 +12,11 @@ use std::os::unix::ffi::OsStringExt;
 
 /// Octets of the longest list, of a word as far as it counts, and of one as far as it is shown.
 const LIST: usize = 65_535;
-const COUNTED: usize = 4_096;
-const SHOWN: usize = 1_000;
+pub const COUNTED: usize = 4_096;
+pub const SHOWN: usize = 1_000;
 
 pub fn calls() -> Vec<Given> {
-    let mut calls = pages();
+    let mut calls = pages("-v");
     calls.extend(long_words());
     calls.extend(odd_words());
     calls.extend(odd_files());
@@ -32,7 +32,8 @@ pub fn call(words: &[&str]) -> Given {
     }
 }
 
-fn pages() -> Vec<Given> {
+/// The pages, and what is not to be taken for a page, this word before one too.
+pub fn pages(word: &str) -> Vec<Given> {
     [
         &[][..],
         &[""],
@@ -40,7 +41,7 @@ fn pages() -> Vec<Given> {
         &["--version", ""],
         &["--help"],
         &["--help", "--help"],
-        &["-v", "--version"],
+        &[word, "--version"],
     ]
     .map(call)
     .to_vec()

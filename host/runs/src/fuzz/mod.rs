@@ -5,6 +5,8 @@ mod aim;
 pub mod contest;
 mod draft;
 mod draw;
+#[cfg(test)]
+mod drawn;
 mod edit;
 mod ends;
 mod fixed;

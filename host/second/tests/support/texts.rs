@@ -1,6 +1,7 @@
 //! Drawn texts: good ones, nearly good ones, garbage over a small alphabet.
 
-use random::{texts, Random};
+use random::texts::{self, CHARACTERS};
+use random::Random;
 
 /// So few values that lines of 32 are still met.
 pub fn values(random: &mut Random) -> Vec<u8> {
@@ -34,32 +35,25 @@ fn either_case(random: &mut Random, text: &mut [u8]) {
     }
 }
 
-const ALPHABET: &[u8] = b"0019aFf\n\n\nG \r";
-
 /// One character changed, removed or put in, or the end cut off.
 pub fn nearly_good(random: &mut Random) -> Vec<u8> {
     let mut text = good(random);
     let place = random.below(text.len() as u64) as usize;
-    let character = random.pick(ALPHABET);
-    match random.below(4) {
-        0 => text[place] = character,
-        1 => drop(text.remove(place)),
-        2 => text.insert(place, character),
-        _ => text.truncate(place),
-    }
+    let character = random.pick(CHARACTERS);
+    texts::slip(random, &mut text, place, character);
     text
 }
 
 /// Of a few characters, or digits only, of which a line may have too many.
 pub fn garbage(random: &mut Random) -> Vec<u8> {
     let (alphabet, length) = match random.below(3) {
-        0 => (ALPHABET, random.below(24)),
+        0 => (CHARACTERS, random.below(24)),
         1 => (b"000000000000\n\n".as_slice(), random.below(24)),
         _ => (b"09aF".as_slice(), random.within(62, 67)),
     };
     let mut text: Vec<u8> = (0..length).map(|_| random.pick(alphabet)).collect();
     if random.below(2) == 0 {
-        text.push(random.pick(ALPHABET));
+        text.push(random.pick(CHARACTERS));
     }
     text
 }

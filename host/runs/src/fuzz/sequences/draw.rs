@@ -26,37 +26,26 @@ pub fn draw(random: &mut Random) -> (Aim, Given) {
 #[cfg(test)]
 mod tests {
     use super::*;
-
-    const COUNT: usize = 3_000;
-
-    fn drawn(seed: u64) -> Vec<(Aim, Given)> {
-        let mut random = Random::new(seed);
-        (0..COUNT).map(|_| draw(&mut random)).collect()
-    }
+    use crate::fuzz::drawn::{self, COUNT};
 
     #[test]
     fn a_seed_fixes_the_calls() {
-        assert_eq!(drawn(7), drawn(7));
-        assert_ne!(drawn(7), drawn(8));
+        drawn::a_seed_fixes_the_calls(draw);
     }
 
     #[test]
     fn every_part_of_the_grammar_is_drawn() {
-        let fitting = drawn(2).into_iter().filter(|(aim, _)| *aim == Aim::Done);
-        let calls: Vec<Given> = fitting.map(|(_, given)| given).collect();
-        for word in [
+        let words = [
             "read", "write", "encode", "decode", "mu", "a", "2", "3", "4", "5", "h", "./160",
             "./-h",
-        ] {
-            let met = calls.iter().filter(|g| g.words.contains(&word.into()));
-            assert!(met.count() > 2, "{word}");
-        }
+        ];
+        drawn::every_word_is_drawn(draw, &words);
     }
 
     /// Most are short enough to be looked at, and some longer than a read.
     #[test]
     fn calls_are_short_and_long_and_all_can_be_stored() {
-        let calls = drawn(3);
+        let calls = drawn::drawn(draw, 3);
         let longer = |least| calls.iter().filter(|(_, g)| g.input.len() > least).count();
         assert!(longer(1_000) < COUNT / 10);
         assert!(longer(5_000) > 20 && longer(10_000) == 0);

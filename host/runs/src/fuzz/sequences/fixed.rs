@@ -1,22 +1,18 @@
 //! Calls of `sequences` that are done each time, before the drawn ones: limits that a draw would seldom
 //! meet.
 
-use crate::fuzz::fixed::{call, given};
+use crate::fuzz::fixed::{call, given, pages, COUNTED, SHOWN};
 use crate::run::{Files, Given};
 use random::Random;
 use second::text::write_whole;
 use std::ffi::OsString;
 use std::os::unix::ffi::OsStringExt;
 
-/// Octets of a word as far as it counts, and as far as it is shown.
-const COUNTED: usize = 4_096;
-const SHOWN: usize = 1_000;
-
 /// Lengths of a buffer that a program might have.
 const BUFFERS: [usize; 8] = [512, 1_024, 2_048, 4_096, 8_192, 16_384, 32_768, 65_536];
 
 pub fn calls() -> Vec<Given> {
-    let mut calls = pages();
+    let mut calls = pages("read");
     calls.extend(long_words());
     calls.extend(odd_words());
     calls.extend(odd_files());
@@ -24,20 +20,6 @@ pub fn calls() -> Vec<Given> {
     calls.extend(faults_at_buffers());
     calls.extend(long_texts());
     calls
-}
-
-fn pages() -> Vec<Given> {
-    [
-        &[][..],
-        &[""],
-        &["--version"],
-        &["--version", ""],
-        &["--help"],
-        &["--help", "--help"],
-        &["read", "--version"],
-    ]
-    .map(call)
-    .to_vec()
 }
 
 fn long_words() -> Vec<Given> {
