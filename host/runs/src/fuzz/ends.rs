@@ -131,7 +131,7 @@ fn stop_waiting(end: &impl AsRawFd) -> io::Result<()> {
 }
 
 /// What the program does where standard input is a socket that does not wait: that cannot be opened
-/// again by a name. After a while it is closed, so that a program that waits all the same ends.
+/// again by a name.
 fn by_socket(tool: &Tool, given: &Given) -> Result<Done, String> {
     let told = |error: io::Error| format!("a socket: {error}");
     let scratch = Scratch::with(&Files::new())?;
@@ -139,13 +139,23 @@ fn by_socket(tool: &Tool, given: &Given) -> Result<Done, String> {
     theirs.set_nonblocking(true).map_err(told)?;
     let input = Stdio::from(OwnedFd::from(theirs));
     let child = tool.start(scratch.folder(), &given.words, input)?;
+    while_nothing_comes(child, &scratch, ours)
+}
+
+/// What the program does while nothing is written to the other end of its input. After a while that is
+/// closed, so that a program that waits all the same ends.
+fn while_nothing_comes(
+    child: Child,
+    scratch: &Scratch,
+    other_end: impl Send + 'static,
+) -> Result<Done, String> {
     let (ended, end) = channel::<()>();
     thread::spawn(move || {
         // Either the program has ended, or the time is over.
         let _ = end.recv_timeout(LIMIT);
-        std::mem::drop(ours);
+        std::mem::drop(other_end);
     });
-    let found = done(child, &scratch)?;
+    let found = done(child, scratch)?;
     std::mem::drop(ended);
     Ok(found)
 }
@@ -198,13 +208,25 @@ mod tests {
 
     #[test]
     fn a_pipe_does_not_wait_where_it_is_told_so() {
+        let scratch = Scratch::with(&Files::new()).unwrap();
+        let (reader, writer) = io::pipe().unwrap();
+        stop_waiting(&reader).unwrap();
+        let words: [&str; 0] = [];
+        let child = shell("exec cat").start(scratch.folder(), &words, Stdio::from(reader));
+        let found = while_nothing_comes(child.unwrap(), &scratch, writer).unwrap();
+        assert_eq!((found.output.len(), found.status), (0, Some(1)));
+    }
+
+    /// Opened by its name it waits, however busy the machine is.
+    #[test]
+    fn what_comes_slowly_comes_whole() {
         let given = Given {
             input: vec![b'x'; 20],
             ..Given::default()
         };
-        let (waited, found) = slowly(&shell("exec cat"), &given).unwrap();
-        assert_eq!((waited.output.len(), waited.status), (20, Some(0)));
-        assert_eq!((found.output.len(), found.status), (0, Some(1)));
+        let (due, found) = slowly(&shell("exec cat /dev/stdin"), &given).unwrap();
+        assert_eq!((found.output.len(), found.status), (20, Some(0)));
+        assert_eq!(due, found);
     }
 
     #[test]
