@@ -3,7 +3,6 @@ use mathlib.Core.Bool.{Bool, true, false, _&&_}
 use mathlib.Core.List.{List, [], _∷_}
 use mathlib.Core.Path.{_≡_}
 use Prim.Native.Nat.{ℕ, suc, _+_, _-_, _≤_, _<_}
-use native.Mathlib.Nat.{sub-zero}
 use native.Mathlib.Numerals.{add-one}
 use native.Mathlib.Omega.{arith}
 use lib.Dec.{leb}
@@ -16,7 +15,7 @@ use Rattle.sequence.specs.Reading.{isRefused, givenOf, given, stepOf, re
 use Rattle.sequence.specs.Inner.{Puts}
 use Rattle.sequence.specs.declared.reader.Reader.{Reader}
 use Rattle.sequence.specs.declared.step.Stepped.{Stepped}
-use Rattle.sequence.proofs.Underway.{Underway, underway-none, underway-size, underway-stopped, underway-put}
+use Rattle.sequence.proofs.Underway.{Midway, underway-size, underway-stopped, underway-put}
 use Rattle.sequence.proofs.Taking.{reading-refused, reading-full, reading-more}
 
 -- a value, where there is one, has room, or has none
@@ -40,19 +39,12 @@ left true v size w w′ e q =
 left false v size w w′ e q = omega arith
 
 module _ (r₀ : Reader) (text before : List ℕ) where
-  pub record Going (r : Reader) (i w : ℕ) (out : List ℕ) : Type 0 where
-    pub within : i ≤ length text
-    pub under : Underway (reading (length before) r₀ text) before i w (reading (length before - w) r (drop i text)) out
-
-  pub going-none : Going r₀ 0 0 before
-  going-none = record { within = omega arith; under = rw sub-zero (underway-none (reading (length before) r₀ text) before) }
-
-  pub going-done : {r : Reader} {i w : ℕ} {out : List ℕ} → Going r i w out → length text ≤ i → Fills (reading (length before) r₀ text) before out r i w
+  pub going-done : {r : Reader} {i w : ℕ} {out : List ℕ} → Midway reading r₀ text before r i w out → length text ≤ i → Fills (reading (length before) r₀ text) before out r i w
   unfolding reading
   going-done {r} {i} {w} g all =
       underway-stopped (reading (length before) r₀ text) before (g .under) r (rw (drop-of-length-le text all))
 
-  module _ {r : Reader} {i w : ℕ} {out : List ℕ} (g : Going r i w out) (more : i < length text) {s : Stepped} (is : s ≡ stepOf r (getD text i 0)) where
+  module _ {r : Reader} {i w : ℕ} {out : List ℕ} (g : Midway reading r₀ text before r i w out) (more : i < length text) {s : Stepped} (is : s ≡ stepOf r (getD text i 0)) where
     pub going-refused : isRefused (s .reader .verdict) ≡ true → Fills (reading (length before) r₀ text) before out (s .reader) i w
     going-refused e =
         underway-stopped (reading (length before) r₀ text) before (g .under) (s .reader)
@@ -66,7 +58,7 @@ module _ (r₀ : Reader) (text before : List ℕ) where
           underway-stopped (reading (length before) r₀ text) before (g .under) r
           (rw (drop-cons text i 0 more) (reading-full _ r (getD text i 0) _ (rw is at sound) lacking))
 
-      pub going-more : {w′ : ℕ} {out′ : List ℕ} → s .gives && leb (length out) w ≡ false → Puts w (s .gives) (s .value) out out′ w′ → Going (s .reader) (i + 1) w′ out′
+      pub going-more : {w′ : ℕ} {out′ : List ℕ} → s .gives && leb (length out) w ≡ false → Puts w (s .gives) (s .value) out out′ w′ → Midway reading r₀ text before (s .reader) (i + 1) w′ out′
       going-more {w′} {out′} e q =
           let free : s .gives && leb (length before) w ≡ false = rw (underway-size _ _ (g .under)) at e in
           let room : length (given r (getD text i 0)) ≤ length before - w = rw (← is) (fits (s .gives) (s .value) (length before) w free) in

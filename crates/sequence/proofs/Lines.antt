@@ -9,9 +9,8 @@ use lib.Dec.{eqb}
 use lib.ListN.{length}
 use borrow.Author.Tests.{ne-eqb}
 use Rattle.words.proofs.Pick.{by-pick}
-use Rattle.sequence.specs.Limits.{lineFeed}
+use Rattle.sequence.specs.Limits.{lineFeed, added}
 use Rattle.sequence.specs.Digits.{digitOf}
-use Rattle.sequence.specs.Reading.{added}
 use Rattle.sequence.specs.Text.{valuesOf, sumOf, remainder, onto, linesOf, lines}
 
 -- characters that stand in front of the first line

@@ -10,9 +10,9 @@ use lib.ListN.{length, length-append}
 use borrow.Author.Tests.{eqb-true, eqb-false, eq-eqb, ne-eqb}
 use Rattle.words.specs.Notation.{pick}
 use Rattle.words.proofs.Pick.{cases}
-use Rattle.sequence.specs.Limits.{lineFeed}
+use Rattle.sequence.specs.Limits.{lineFeed, added}
 use Rattle.sequence.specs.Digits.{digitOf}
-use Rattle.sequence.specs.Reading.{kept, handed, begun, firstDigit, heldBack, completed, secondDigit, joined, withDigit, givenOf, added, back, endOf}
+use Rattle.sequence.specs.Reading.{kept, handed, begun, firstDigit, heldBack, completed, secondDigit, joined, withDigit, givenOf, back, endOf}
 use Rattle.sequence.specs.Text.{Outcome, outcomeOf, Values, Wrong, valuesOf, sumOf, remainder, onto, linesOf, lines}
 use Rattle.sequence.specs.declared.reader.Refusal.the-variants.{WrongRemainder}
 use Rattle.sequence.specs.declared.reader.Verdict.the-variants.{Sound, Refused}

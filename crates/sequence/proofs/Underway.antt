@@ -2,8 +2,8 @@
 use mathlib.Core.Bool.{Bool, true, false, _&&_}
 use mathlib.Core.List.{List, [], _∷_, append-nil}
 use mathlib.Core.Path.{_≡_, refl, sym, ap, _∙_}
-use Prim.Native.Nat.{ℕ, _+_, _≤_, _<_}
-use native.Mathlib.Nat.{add-zero, zero-add, add-assoc}
+use Prim.Native.Nat.{ℕ, _+_, _-_, _≤_, _<_}
+use native.Mathlib.Nat.{add-zero, zero-add, add-assoc, sub-zero}
 use native.Mathlib.Numerals.{add-one}
 use native.Mathlib.Omega.{arith}
 use lib.Dec.{leb}
@@ -83,3 +83,12 @@ module _ {S : Type 0} (p : Piece S) (before : List ℕ) where
           let size = underway-size in
           rw (q .behind, q .out) (underway-one v e (omega arith))
       underway-put false v w′ out′ e room q = rw (q .behind, q .out) (underway-nothing e)
+
+-- the loop of a call, behind i of what it was lent and n octets of its buffer: the same call on what is left makes the rest
+module _ {S : Type 0} (call : ℕ → S → List ℕ → Piece S) (s₀ : S) (xs before : List ℕ) where
+  pub record Midway (s : S) (i n : ℕ) (out : List ℕ) : Type 0 where
+    pub within : i ≤ length xs
+    pub under : Underway (call (length before) s₀ xs) before i n (call (length before - n) s (drop i xs)) out
+
+  pub midway-none : Midway s₀ 0 0 before
+  midway-none = record { within = omega arith; under = rw sub-zero (underway-none (call (length before) s₀ xs) before) }

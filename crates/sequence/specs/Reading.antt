@@ -7,7 +7,7 @@ use lib.Dec.{eqb, leb, ltb}
 use lib.ListN.{length}
 use Rattle.words.specs.Notation.{_when_∣_}
 use Rattle.sequence.specs.Piece.{Piece, stop, further, Fills}
-use Rattle.sequence.specs.Limits.{lineFeed, longest, modulus, isWhole}
+use Rattle.sequence.specs.Limits.{lineFeed, longest, modulus, added, isWhole}
 use Rattle.sequence.specs.Digits.{digitOf, isDigit}
 use Rattle.sequence.specs.declared.reader.Refusal.{Refusal}
 use Rattle.sequence.specs.declared.reader.Refusal.the-variants.{BadCharacter, LineTooLong, WrongRemainder, MissingRemainder}
@@ -40,9 +40,6 @@ abbrev pub kept : Reader → Stepped
 kept r = record { reader = r; gives = false; value = 0 }
 
 -- a value is handed out, and summed
-abbrev pub added : ℕ → ℕ → ℕ
-added sum v = (sum + v) % modulus
-
 abbrev pub handed : Reader → ℕ → Stepped
 handed r v =
     record {

@@ -1,8 +1,7 @@
 // The sum of values modulo 255, of which the remainder is made.
 ghost use mathlib.Core.Path.{_≡_};
 ghost use Prim.Native.Nat.{_%_};
-ghost use Rattle.sequence.specs.Limits.{modulus};
-ghost use Rattle.sequence.specs.Reading.{added};
+ghost use Rattle.sequence.specs.Limits.{modulus, added};
 use crate::limits::MODULUS;
 
 // With one value more

@@ -13,12 +13,10 @@ use borrow.Author.Tests.{leb-true, leb-false, ltb-true, eqb-true, eqb-false, not
 use Rattle.words.specs.Notation.{_when_∣_}
 use Rattle.words.proofs.Pick.{cases}
 use Rattle.words.proofs.Rows.{both}
-use Rattle.sequence.specs.Limits.{lineFeed, longest}
+use Rattle.sequence.specs.Limits.{lineFeed, longest, added}
 use Rattle.sequence.specs.Piece.{stop, further}
-use Rattle.sequence_writer.specs.Layout.{capital}
-use Rattle.sequence.specs.Reading.{added}
 use Rattle.sequence.specs.Text.{sumOf}
-use Rattle.sequence_writer.specs.Layout.{lineOf}
+use Rattle.sequence_writer.specs.Layout.{capital, lineOf}
 use Rattle.sequence_writer.specs.Writing.{isDone, awaits, endsLine, closing, nextOf, takenBy, writing}
 use Rattle.sequence_writer.specs.declared.Stage.{Stage}
 use Rattle.sequence_writer.specs.declared.Stage.the-variants.{Values, Closing, Remainder, Done}

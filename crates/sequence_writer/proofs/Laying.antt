@@ -4,7 +4,7 @@ use mathlib.Core.List.{List, [], _∷_}
 use mathlib.Core.Path.{_≡_, refl, ap, _∙_}
 use Prim.Native.Nat.{ℕ, suc, _+_, _-_, _≤_, _<_}
 use native.Mathlib.Decide.{decLe}
-use native.Mathlib.Nat.{add-zero, sub-zero}
+use native.Mathlib.Nat.{add-zero}
 use native.Mathlib.Omega.{arith}
 use lib.Dec.{eqb, leb}
 use lib.ListN.{length, getD, drop, set, length-drop}
@@ -16,7 +16,7 @@ use Rattle.sequence.specs.Piece.{stop, further, Fills}
 use Rattle.sequence_writer.specs.Writing.{isDone, awaits, nextOf, takenBy, writing}
 use Rattle.sequence_writer.specs.declared.Writer.{Writer}
 use Rattle.sequence_writer.specs.declared.Written.{Written}
-use Rattle.sequence.proofs.Underway.{Underway, underway-none, underway-size, underway-stopped, underway-one}
+use Rattle.sequence.proofs.Underway.{Midway, underway-size, underway-stopped, underway-one}
 
 module _ (room : ℕ) (w : Writer) (vs : List ℕ) where
   pub writing-stop : isDone (w .stage) || (awaits w && eqb (length vs) 0) ≡ true → writing (suc room) w vs ≡ stop w
@@ -47,21 +47,14 @@ reached false true n i h e =
 reached false false n i h e = omega arith
 
 module _ (w₀ : Writer) (values before : List ℕ) where
-  pub record Laying (w : Writer) (i n : ℕ) (out : List ℕ) : Type 0 where
-    pub within : i ≤ length values
-    pub under : Underway (writing (length before) w₀ values) before i n (writing (length before - n) w (drop i values)) out
-
-  pub laying-none : Laying w₀ 0 0 before
-  laying-none = record { within = omega arith; under = rw sub-zero (underway-none (writing (length before) w₀ values) before) }
-
-  pub laying-full : {w : Writer} {i n : ℕ} {out : List ℕ} → Laying w i n out → length out ≤ n → Fills (writing (length before) w₀ values) before out w i n
+  pub laying-full : {w : Writer} {i n : ℕ} {out : List ℕ} → Midway writing w₀ values before w i n out → length out ≤ n → Fills (writing (length before) w₀ values) before out w i n
   unfolding writing
   laying-full {w} {i} {n} l full =
       let size = underway-size (writing (length before) w₀ values) before (l .under) in
       let none : length before - n ≡ 0 = omega arith in
       underway-stopped (writing (length before) w₀ values) before (l .under) w (rw none)
 
-  module _ {w : Writer} {i n : ℕ} {out : List ℕ} (l : Laying w i n out) (more : n < length out) where
+  module _ {w : Writer} {i n : ℕ} {out : List ℕ} (l : Midway writing w₀ values before w i n out) (more : n < length out) where
     size : length out ≡ length before
     size = underway-size (writing (length before) w₀ values) before (l .under)
 
@@ -74,7 +67,7 @@ module _ (w₀ : Writer) (values before : List ℕ) where
         underway-stopped (writing (length before) w₀ values) before (l .under) w (rw room (writing-stop (length before - (n + 1)) w (drop i values) none))
 
     pub laying-more : isDone (w .stage) || (awaits w && leb (length values) i) ≡ false → {s : Written} → s ≡ nextOf w (getD values i 0) → {t : ℕ} → t ≡ takenBy w
-        → Laying (s .writer) (i + t) (n + 1) (set out n (s .character))
+        → Midway writing w₀ values before (s .writer) (i + t) (n + 1) (set out n (s .character))
     laying-more e {s} is {t} by =
         let some : isDone (w .stage) || (awaits w && eqb (length (drop i values)) 0) ≡ false = rw (spent values i (decLe _ _)) at e in
         let here : getD (drop i values) 0 0 ≡ getD values i 0 = getD-drop i values 0 0 ∙ ap (λ (k : ℕ). getD values k 0) (add-zero i) in

@@ -8,9 +8,8 @@ use lib.ListN.{length, take, drop, length-take, length-drop, take-append-drop}
 use borrow.Author.Tests.{le-leb, lt-leb, lt-ltb, eq-eqb, ne-eqb}
 use Rattle.words.proofs.Rows.{and-false}
 use Rattle.sequence.specs.Limits.{lineFeed, longest}
-use Rattle.sequence_writer.specs.Layout.{capital}
 use Rattle.sequence.specs.Text.{Outcome, Values, valuesOf, sumOf, remainder, characters, onto, linesOf, lines, readOf, Octets}
-use Rattle.sequence_writer.specs.Layout.{lineOf, rows, textOf}
+use Rattle.sequence_writer.specs.Layout.{capital, lineOf, rows, textOf}
 use Rattle.sequence_writer.proofs.Capitals.{capital-read, capital-no-feed}
 use Rattle.sequence_writer.proofs.Octets.{octets-one, octets-head, octets-tail, octets-take, octets-drop}
 

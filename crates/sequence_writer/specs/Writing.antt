@@ -6,10 +6,9 @@ use Prim.Native.Nat.{ℕ, zero, suc, _+_, _/_, _%_}
 use lib.Dec.{eqb, leb, ltb}
 use lib.ListN.{length, getD, drop}
 use Rattle.words.specs.Notation.{_when_∣_}
-use Rattle.sequence.specs.Limits.{lineFeed, longest, modulus}
+use Rattle.sequence.specs.Limits.{lineFeed, longest, modulus, added}
 use Rattle.sequence_writer.specs.Layout.{capital}
 use Rattle.sequence.specs.Piece.{Piece, stop, further, Fills}
-use Rattle.sequence.specs.Reading.{added}
 use Rattle.sequence_writer.specs.declared.Stage.{Stage}
 use Rattle.sequence_writer.specs.declared.Stage.the-variants.{Values, Closing, Remainder, Done}
 use Rattle.sequence_writer.specs.declared.Writer.{Writer}

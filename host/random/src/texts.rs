@@ -34,8 +34,8 @@ pub fn in_lines(random: &mut Random, values: &[u8]) -> Vec<u8> {
 /// Digits of either case, line feeds, and characters that no text has.
 pub const CHARACTERS: &[u8] = b"0019aFf\n\n\nG \r";
 
-/// Makes a text nearly good: there the character is put in another's place or before it, one is removed,
-/// or the end is cut off.
+/// Makes a good text nearly good. At the place the character is put over another or before it, or one is
+/// removed, or the text ends.
 pub fn slip(random: &mut Random, text: &mut Vec<u8>, place: usize, character: u8) {
     match random.below(4) {
         0 => text[place] = character,

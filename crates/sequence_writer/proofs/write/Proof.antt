@@ -6,19 +6,20 @@ use borrow.Author.Needs.{needs}
 use native.Mathlib.Omega.{arith}
 use lib.ListN.{length}
 use Rattle.words.specs.Notation.{pick}
-use Rattle.sequence.proofs.Underway.{underway-size}
-use Rattle.sequence_writer.proofs.Laying.{Laying, laying-none, laying-full, laying-stopped, laying-more, reached, as-number}
+use Rattle.sequence.proofs.Underway.{Midway, midway-none, underway-size}
+use Rattle.sequence_writer.proofs.Laying.{laying-full, laying-stopped, laying-more, reached, as-number}
+use Rattle.sequence_writer.specs.Writing.{writing}
 use Rattle.sequence_writer.proofs.write.Statement.{statement}
 use Rattle.sequence_writer.proofs.write.Tie as tie
 
 abbrev Inv-loop : tie.InvT-loop
-Inv-loop values text₀ w₀ taken₀ written₀ text w taken written = Laying w₀ values text₀ w taken written text
+Inv-loop values text₀ w₀ taken₀ written₀ text w taken written = Midway writing w₀ values text₀ w taken written text
 
 abbrev μ-loop : tie.MeasureT-loop
 μ-loop values text₀ w₀ taken₀ written₀ text w taken written = length text₀ - written
 
 loop-holds : tie.Need-loop-holds Inv-loop μ-loop
-loop-holds c = laying-none _ _ _
+loop-holds c = midway-none _ _ _ _
 
 awaits-requires : tie.Need-awaits-requires Inv-loop μ-loop
 awaits-requires c κs = search needs

@@ -4,19 +4,20 @@ use Prim.Native.Nat.{_-_}
 use borrow.Author.Needs.{needs}
 use native.Mathlib.Omega.{arith}
 use lib.ListN.{length}
-use Rattle.sequence.proofs.Underway.{underway-size}
-use Rattle.sequence.proofs.Going.{Going, going-none, going-refused, going-full, going-more, going-done}
+use Rattle.sequence.specs.Reading.{reading}
+use Rattle.sequence.proofs.Underway.{Midway, midway-none, underway-size}
+use Rattle.sequence.proofs.Going.{going-refused, going-full, going-more, going-done}
 use Rattle.sequence.proofs.reader.read.Statement.{statement}
 use Rattle.sequence.proofs.reader.read.Tie as tie
 
 abbrev Inv-loop : tie.InvT-loop
-Inv-loop text values₀ r₀ taken₀ written₀ values r taken written = Going r₀ text values₀ r taken written values
+Inv-loop text values₀ r₀ taken₀ written₀ values r taken written = Midway reading r₀ text values₀ r taken written values
 
 abbrev μ-loop : tie.MeasureT-loop
 μ-loop text values₀ r₀ taken₀ written₀ values r taken written = length text - taken
 
 loop-holds : tie.Need-loop-holds Inv-loop μ-loop
-loop-holds c = going-none _ _ _
+loop-holds c = midway-none _ _ _ _
 
 shared-slice-read-step : tie.Need-shared-slice-read-step Inv-loop μ-loop
 shared-slice-read-step c = omega arith
