@@ -5,6 +5,7 @@ use native.Mathlib.Omega.{arith}
 use native.Mathlib.Decide.{decLe}
 use native.Mathlib.Nat.{pow-suc}
 use lib.Pow.{pow-mono}
+use lib.Count.{leadingZeros, leading-top}
 use borrow.Author.Tests.{le-leb, lt-leb}
 use Rattle.words.specs.Length.{rows, bitLength}
 use Rattle.words.specs.Inner.{Spans}
@@ -62,3 +63,10 @@ length-spans m h = rows-span 16 m h
 -- a number below 2 ^ k has at most k bits
 pub length-le : (k m : ℕ) → m < 65536 → m < 2 ^ k → bitLength m ≤ k
 length-le k m h less = short k m (bitLength m) less (length-spans m h .low) (decLe (bitLength m) k)
+
+-- 2 m + 1 has one bit more than m: counted in a word of k bits, its leading zeros, that bit and the bits of m make k
+pub length-counted : (k m : ℕ) → m < 65536 → 2 * m + 1 < 2 ^ k → leadingZeros k (2 * m + 1) + suc (bitLength m) ≡ k
+length-counted k m word fits =
+    let top = leading-top k (2 * m + 1) (omega arith) fits in
+    let spans : Spans m (top .0) = record { low = top .2; high = omega (arith, top .3, pow-suc 2 (top .0)) } in
+    rw (sym (length-is m (top .0) word spans)) (top .1)

@@ -1,21 +1,21 @@
--- `words::bits::bit_length` meets its contract: each half of the search spans m, and one number alone does.
+-- `words::bits::bit_length` meets its contract: the zeros, the bit that 2 m + 1 has more, and the bits of m make 32.
 use borrow.Author.Needs.{needs}
-use Rattle.words.proofs.Length.{length-is}
+use mathlib.Core.Path.{_≡_}
+use Prim.Native.Nat.{suc, _+_, _*_}
+use native.Mathlib.Omega.{arith}
+use lib.Count.{leadingZeros}
+use Rattle.words.specs.Length.{bitLength}
+use Rattle.words.proofs.Length.{length-counted}
 use Rattle.words.proofs.bits.bit_length.Statement.{statement}
 use Rattle.words.proofs.bits.bit_length.Tie as tie
 
-span-of-octet-requires : tie.Need-span-of-octet-requires
-span-of-octet-requires c κs = search needs
-
-returns : tie.Need-returns
-returns c = length-is _ _ (c .before .before .fits .m .fits) (c .span-of-octet .ensures)
-
-span-of-word-requires : tie.Need-span-of-word-requires
-span-of-word-requires c κs = search needs
-
-returns-2 : tie.Need-returns-2
-returns-2 c = length-is _ _ (c .before .before .fits .m .fits) (c .span-of-word .ensures)
+counted : (c : tie.Start) → leadingZeros 32 (2 * c .args .m + 1) + suc (bitLength (c .args .m)) ≡ 32
+counted c = length-counted 32 (c .args .m) (c .fits .m .fits) (omega arith)
 
 pub bit-length-spec : {M : Type 1} → statement M
 bit-length-spec =
-    tie.close (tie.spec span-of-octet-requires returns span-of-word-requires returns-2)
+    tie.close
+    (tie.spec (search needs) (search needs)
+    (λ c. omega (arith, counted c))
+    (search needs)
+    (λ c. omega (arith, counted c)))
