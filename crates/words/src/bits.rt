@@ -3,8 +3,8 @@
 ghost use mathlib.Core.Path.{_≡_};
 ghost use Rattle.words.specs.Length.{bitLength};
 
-// 2 m + 1 has one bit more than m and is never 0, where x86-64 without `lzcnt` would need a case of
-// its own for the count.
+// Counted is 2 m + 1. It has one bit more than m, and is never 0: for 0 x86-64's `bsr` has no answer,
+// and the compiler would have to add one.
 pub fn bit_length(m: u16) -> u16
     ensures { λ r. ⌜ r ≡ bitLength m ⌝ }
 {
