@@ -138,7 +138,7 @@ fn decode_line(line: &[u8], frame: &[u8], out: &mut [u8]) {
     let reply = r.reply;
     let next = r.state;
     say_reply(reply, r.octets);
-    say_number(r.moved as u64);
+    say_number(r.disagreements as u64);
     say_octets(out);
     say_state(next);
 }

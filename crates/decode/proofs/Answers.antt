@@ -22,4 +22,4 @@ module _ (s : State) (LAW : ℕ) (frame before : List ℕ) where
       → (a ≡ b) × (after ≡ after′)
   decode-equal after after′ a b p q =
       let reply = reply-equal (a .reply) (b .reply) (p .number ∙ sym (q .number)) in
-      (λ i. record { reply = reply i; octets = (p .octets ∙ sym (q .octets)) i; moved = (p .moved ∙ sym (q .moved)) i; state = (p .state ∙ sym (q .state)) i }, p .out ∙ sym (q .out))
+      (λ i. record { reply = reply i; octets = (p .octets ∙ sym (q .octets)) i; disagreements = (p .disagreements ∙ sym (q .disagreements)) i; state = (p .state ∙ sym (q .state)) i }, p .out ∙ sym (q .out))

@@ -1,5 +1,5 @@
--- The call `decode(state, law, frame, out)`: its rows, then the bytes that the G.711 end makes of the received codewords, how many of them SYNC
--- moved, and the state that decoding the codewords ends in, in which the law has no part (Codewords.antt).
+-- The call `decode(state, law, frame, out)`: its rows, then the bytes that the G.711 end makes of the received codewords, at how many of them SYNC
+-- found a disagreement, and the state that decoding the codewords ends in, in which the law has no part (Codewords.antt).
 use mathlib.Core.Bool.{not}
 use mathlib.Core.List.{List, [], _∷_, _++_}
 use mathlib.Core.Path.{_≡_}
@@ -13,7 +13,7 @@ use Rattle.state.specs.declared.memory.Memory.{Memory}
 use Rattle.state.specs.declared.State.{State}
 use Rattle.state.specs.Range.{inRange}
 use Rattle.sample.specs.Decode.{decoderNext}
-use Rattle.sample.specs.Pcm.{byteOf, movedOf}
+use Rattle.sample.specs.Pcm.{byteOf, disagreementOf}
 use Rattle.frame.specs.declared.header.Header.{Header}
 use Rattle.frame.specs.Header.{headerOf, sampleCount, isDue}
 use Rattle.frame.specs.Read.{received}
@@ -38,8 +38,8 @@ module _ (LAW core width : ℕ) (m : Memory) (codewords : List ℕ) where
   unfoldable pub decodedBytes : List ℕ
   decodedBytes = outs (decoderNext core width) (byteOf LAW core width) m codewords
 
-  unfoldable pub decodedMoved : ℕ
-  decodedMoved = total (decoderNext core width) (movedOf LAW core width) m codewords
+  unfoldable pub decodedDisagreements : ℕ
+  decodedDisagreements = total (decoderNext core width) (disagreementOf LAW core width) m codewords
 
 module _ (s : State) (LAW : ℕ) (frame before : List ℕ) where
   -- the number of the reply that is due for what is lent
@@ -49,8 +49,8 @@ module _ (s : State) (LAW : ℕ) (frame before : List ℕ) where
   unfoldable pub decodeOctets : ℕ
   decodeOctets = pick (eqb decodeReply 0) (sampleCount (headerOf frame)) 0
 
-  unfoldable pub decodeMoved : ℕ
-  decodeMoved = pick (eqb decodeReply 0) (decodedMoved LAW (s .core) (headerOf frame .width) (s .memory) (received frame)) 0
+  unfoldable pub decodeDisagreements : ℕ
+  decodeDisagreements = pick (eqb decodeReply 0) (decodedDisagreements LAW (s .core) (headerOf frame .width) (s .memory) (received frame)) 0
 
   unfoldable pub decodeState : State
   decodeState = pick (eqb decodeReply 0) (decodedState s (headerOf frame) (received frame)) s
@@ -61,6 +61,6 @@ module _ (s : State) (LAW : ℕ) (frame before : List ℕ) where
   pub record Decodes (after : List ℕ) (r : DecodeAnswer) : Type 0 where
     pub number : numberOf (r .reply) ≡ decodeReply
     pub octets : r .octets ≡ decodeOctets
-    pub moved : r .moved ≡ decodeMoved
+    pub disagreements : r .disagreements ≡ decodeDisagreements
     pub state : r .state ≡ decodeState
     pub out : after ≡ decodeOut

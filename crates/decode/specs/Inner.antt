@@ -11,7 +11,7 @@ use Rattle.frame.specs.Header.{sampleCount, isDue}
 use Rattle.frame.specs.Sound.{Sound}
 use Rattle.decode.specs.declared.DecodedFrame.{DecodedFrame}
 use Rattle.decode.specs.Codewords.{decodedState}
-use Rattle.decode.specs.Decode.{decodedBytes, decodedMoved}
+use Rattle.decode.specs.Decode.{decodedBytes, decodedDisagreements}
 
 -- what decode's 0 says of a frame of n octets with the header h, beside a law of 0 or 1
 pub record Decodable (s : State) (h : Header) (n room : ℕ) : Type 0 where
@@ -24,5 +24,5 @@ pub record Decodable (s : State) (h : Header) (n room : ℕ) : Type 0 where
 -- a run over the codewords of a frame with the header h, and its bytes in front of what was in the buffer
 pub record DecodesAll (LAW : ℕ) (s : State) (h : Header) (codewords before after : List ℕ) (r : DecodedFrame) : Type 0 where
   pub state : r .state ≡ decodedState s h codewords
-  pub moved : r .moved ≡ decodedMoved LAW (s .core) (h .width) (s .memory) codewords
+  pub disagreements : r .disagreements ≡ decodedDisagreements LAW (s .core) (h .width) (s .memory) codewords
   pub out : after ≡ decodedBytes LAW (s .core) (h .width) (s .memory) codewords ++ drop (length codewords) before

@@ -28,13 +28,13 @@ use state::moved_on;
 pub struct DecodeAnswer {
     pub reply: Reply,
     pub octets: usize,
-    pub moved: usize,
+    pub disagreements: usize,
     pub state: State,
 }
 
 // What a run over a frame's codewords comes to.
 pub struct DecodedFrame {
-    pub moved: usize,
+    pub disagreements: usize,
     pub state: State,
 }
 
@@ -47,7 +47,7 @@ pub fn decode(s: State, law: u8, frame: &[u8], out: &mut [u8]) -> DecodeAnswer
         return DecodeAnswer {
             reply,
             octets: 0,
-            moved: 0,
+            disagreements: 0,
             state: s,
         };
     }
@@ -57,7 +57,7 @@ pub fn decode(s: State, law: u8, frame: &[u8], out: &mut [u8]) -> DecodeAnswer
     DecodeAnswer {
         reply,
         octets: sample_count(h),
-        moved: d.moved,
+        disagreements: d.disagreements,
         state: next,
     }
 }
@@ -89,7 +89,7 @@ fn decode_reply(s: State, law: u8, h: Header, length: usize, room: usize) -> Rep
     Reply::Done
 }
 
-// Each sample's byte, from the frame's planes, and what the state and the moved count come to
+// Each sample's byte, from the frame's planes, and what the state and the count of disagreements come to
 fn decode_into(s: State, law: u8, h: Header, planes: &[u8], out: &mut [u8]) -> DecodedFrame
     requires { ⌜ InRange s × SoundHeader h × (h .core ≡ s .core) × (h .width * h .groups ≤ length (now planes)) × (sampleCount h ≤ length (now out)) ⌝ }
     ensures { λ r. ⌜ DecodesAll law s h (codewords (h .width) (h .groups) (now (planes .entry))) (now (out .entry)) (now (out .exit)) r ⌝ }
@@ -97,7 +97,7 @@ fn decode_into(s: State, law: u8, h: Header, planes: &[u8], out: &mut [u8]) -> D
     let n = sample_count(h);
     let g = h.groups as usize;
     let mut memory = s.memory;
-    let mut moved = 0;
+    let mut disagreements = 0;
     let mut k = 0;
     while k < n {
         let p = decode_byte(
@@ -108,13 +108,13 @@ fn decode_into(s: State, law: u8, h: Header, planes: &[u8], out: &mut [u8]) -> D
             codeword_at(planes, h.width, g, k),
         );
         out[k] = p.byte;
-        moved += p.moved as usize;
+        disagreements += p.disagreement as usize;
         let next = p.memory;
         memory = next;
         k += 1;
     }
     DecodedFrame {
-        moved,
+        disagreements,
         state: moved_on(s, memory, number_after(h.edition, s.number)),
     }
 }

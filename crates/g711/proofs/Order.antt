@@ -1,12 +1,14 @@
--- SP+ and SP- are next to SP: no level of its law lies between, and but for the ends of the scale SP+ is higher than SP and SP- lower.
+-- SP+ and SP- are next to SP: no level of its law lies between, and but for the ends of the scale SP+ is higher than SP and SP- lower. So SP+ is SP at
+-- the upper end alone, and SP- at the lower one.
 use mathlib.Core.Path.{_≡_}
 use Prim.Native.Nat.{ℕ, zero, suc, _+_, _-_, _%_, _≤_, _<_}
 use native.Mathlib.Nat.{le-refl}
 use native.Mathlib.Omega.{arith}
 use native.Mathlib.Decide.{decLe}
 use lib.Dec.{eqb, leb, ltb, eqb·suc-zero}
-use borrow.Author.Tests.{ne-eqb}
+use borrow.Author.Tests.{ne-eqb, eqb-true, eqb-false}
 use Rattle.words.specs.Notation.{pick, _**_}
+use Rattle.words.proofs.Pick.{cases}
 use Rattle.g711.specs.G711.{outputs-mu, outputs-A}
 use Rattle.g711.specs.Expand.{SS-mu, SS-A, EXPAND}
 use Rattle.g711.specs.Neighbour.{above, above-mu, above-T, below, below-mu, below-T}
@@ -104,3 +106,14 @@ pub below-lower : (S LAW : ℕ) → S < 256 → (S ≡ lowest LAW → ⊥) → r
 unfolding EXPAND SS-mu SS-A outputs-mu outputs-A below below-mu below-T
 below-lower S LAW h n =
     rw (ne-eqb S (lowest LAW) n) at (bounded lowered rankOf (λ i l. simp eqb·suc-zero) 256 tt tt S LAW h)
+
+-- what is not moved stands at an end
+stands : {S end : ℕ} → ((S ≡ end → ⊥) → ⊥) → S ≡ end
+stands {S} {end} not = cases (eqb S end) (eqb-true S end) (λ other. absurd (not (eqb-false S end other)))
+
+module _ (S LAW : ℕ) (h : S < 256) where
+  pub above-held-only : above S LAW ≡ S → S ≡ highest LAW
+  above-held-only held = stands (λ other. omega (arith, rw held at (above-higher S LAW h other)))
+
+  pub below-held-only : below S LAW ≡ S → S ≡ lowest LAW
+  below-held-only held = stands (λ other. omega (arith, rw held at (below-lower S LAW h other)))

@@ -1,14 +1,33 @@
--- A byte moves by the place of the codeword that it requantizes to, as the code compares it.
+-- A byte moves by the places of the codeword that it requantizes to and of the received one, and disagrees exactly where they are two codewords: as the
+-- code compares them.
 use mathlib.Core.Path.{_≡_, sym, ap}
 use Prim.Native.Nat.{ℕ, _≤_, _<_}
 use native.Mathlib.Omega.{arith}
-use borrow.Author.Tests.{le-ltb, eq-eqb}
+use lib.Dec.{eqb}
+use borrow.Author.Tests.{le-ltb, eq-eqb, ne-eqb, eqb-true, eqb-false}
+use Rattle.words.specs.Notation.{pick}
+use Rattle.words.proofs.Pick.{cases}
 use Rattle.g711.specs.Expand.{EXPAND}
 use Rattle.logarithm.proofs.Range.{subta-word}
 use Rattle.quantizer.specs.Codeword.{Width, Codeword}
 use Rattle.quantizer.specs.Sync.{IM}
 use Rattle.quantizer.proofs.Coding.{codeword-range, codeword-place}
-use Rattle.sample.specs.Pcm.{moveOf, SYNC, DX, requantized, SD}
+use Rattle.quantizer.proofs.Halves.{place-one-to-one}
+use Rattle.sample.specs.Pcm.{moveOf, SYNC, DX, requantized, SD, disagreement}
+
+-- where the places are one, the byte stays
+pub stays : {ID IM : ℕ} (SP LAW : ℕ) → ID ≡ IM → moveOf ID IM SP LAW ≡ SP
+unfolding moveOf
+stays {ID} {IM} SP LAW e =
+    let not-less : IM ≤ ID = omega arith in
+    rw (le-ltb ID IM not-less, eq-eqb ID IM e)
+
+-- two codewords have two places
+places-apart : {width I J : ℕ} → Codeword width J → Codeword width I → eqb (IM width J) (IM width I) ≡ eqb J I
+places-apart {width} {I} {J} j i =
+    cases (eqb J I)
+    (λ e. rw e (eq-eqb _ _ (ap (IM width) (eqb-true J I e))))
+    (λ e. rw e (ne-eqb _ _ (λ same. eqb-false J I e (place-one-to-one j i same))))
 
 module _ (LAW width Y SE SP : ℕ) (w : Width width) where
   dx-word : DX LAW SE SP < 65536
@@ -23,10 +42,6 @@ module _ (LAW width Y SE SP : ℕ) (w : Width width) where
   unfolding requantized SD SYNC
   moved-by-places I = ap (λ (place : ℕ). moveOf place (IM width I) SP LAW) (sym (codeword-place Y dx-word w))
 
-  -- a byte that requantizes to the received codeword stays
-  pub agreed : {I : ℕ} → requantized LAW width Y SE SP ≡ I → SP ≡ SD LAW width Y SE I SP
-  unfolding moveOf
-  agreed {I} e =
-      let place : IM width (requantized LAW width Y SE SP) ≡ IM width I = ap (IM width) e in
-      let not-less : IM width I ≤ IM width (requantized LAW width Y SE SP) = omega arith in
-      rw (le-ltb _ _ not-less, eq-eqb _ _ place) at (moved-by-places I)
+  pub disagreement-is : {I : ℕ} → Codeword width I → pick (eqb (requantized LAW width Y SE SP) I) 0 1 ≡ disagreement LAW width Y SE I SP
+  unfolding requantized disagreement
+  disagreement-is {I} i = rw (codeword-place Y dx-word w, places-apart requantized-codeword i)

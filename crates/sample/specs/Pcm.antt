@@ -34,18 +34,21 @@ module _ (LAW width Y SE : ℕ) where
   unfoldable pub SD : ℕ → ℕ → ℕ
   SD I SP = SYNC width I SP (SUBTB (LOG (DX LAW SE SP) .dl) Y) (LOG (DX LAW SE SP) .ds) LAW
 
+  -- a byte disagrees with the received codeword where SYNC finds ID and IM different, whether or not it can move the byte: 1, else 0
+  unfoldable pub disagreement : ℕ → ℕ → ℕ
+  disagreement I SP = 0 when eqb (ID width (SUBTB (LOG (DX LAW SE SP) .dl) Y) (LOG (DX LAW SE SP) .ds)) (IM width I) ∣ 1
+
 module _ (LAW core width : ℕ) where
-  -- a codeword played: the final byte, 1 where it differs from the one that COMPRESS gave, and the next memory
+  -- a codeword played: the final byte, 1 where the one that COMPRESS gave disagrees with the codeword, and the next memory
   unfoldable pub playOf : Memory → ℕ → Played
   playOf m I =
       let d = decodeOf core width m I in
       let sp = COMPRESS (d .sr) LAW in
-      let sd = SD LAW width (d .y) (d .se) I sp in
-      record { byte = sd; moved = 0 when eqb sd sp ∣ 1; memory = d .memory }
+      record { byte = SD LAW width (d .y) (d .se) I sp; disagreement = disagreement LAW width (d .y) (d .se) I sp; memory = d .memory }
 
   -- as a step of a run: what is put out, and what is counted
   abbrev pub byteOf : Memory → ℕ → ℕ
   byteOf m I = playOf m I .byte
 
-  abbrev pub movedOf : Memory → ℕ → ℕ
-  movedOf m I = playOf m I .moved
+  abbrev pub disagreementOf : Memory → ℕ → ℕ
+  disagreementOf m I = playOf m I .disagreement

@@ -7,9 +7,10 @@ ghost use Rattle.words.specs.Within.{Within};
 ghost use Rattle.g711.specs.Expand.{EXPAND};
 ghost use Rattle.quantizer.specs.Codeword.{Codeword};
 ghost use Rattle.quantizer.specs.Pair.{Pair};
+ghost use Rattle.quantizer.specs.Sync.{IM};
 ghost use Rattle.state.specs.InRange.{MemoryInRange};
 ghost use Rattle.sample.specs.Encode.{encodeOf};
-ghost use Rattle.sample.specs.Pcm.{moveOf, requantized, SD, playOf};
+ghost use Rattle.sample.specs.Pcm.{moveOf, requantized, playOf};
 use crate::level::Encoded;
 use crate::level::decode_level;
 use crate::level::encode_level;
@@ -24,7 +25,7 @@ use state::memory::Memory;
 
 pub struct Played {
     pub byte: u8,
-    pub moved: u8,
+    pub disagreement: u8,
     pub memory: Memory,
 }
 
@@ -41,11 +42,12 @@ pub fn decode_byte(m: Memory, core: u8, law: u8, width: u8, i: u8) -> Played
 {
     let d = decode_level(m, core, width, i);
     let sp = compress(d.sr, law);
-    let sd = adjusted(law, width, d.y, d.se, i, sp);
+    let j = requantized(law, width, d.y, d.se, sp);
+    let sd = adjusted(law, width, j, i, sp);
     let next = d.memory;
     Played {
         byte: sd,
-        moved: differs(sd, sp),
+        disagreement: differs(j, i),
         memory: next,
     }
 }
@@ -58,12 +60,11 @@ pub fn requantized(law: u8, width: u8, y: u16, se: u16, sp: u8) -> u8
     codeword(width, y, subta(expand(sp, law), se))
 }
 
-// SYNC: requantize, then move. Most bytes requantize to the codeword that was received, and are not compared further.
-fn adjusted(law: u8, width: u8, y: u16, se: u16, i: u8, sp: u8) -> u8
-    requires { ⌜ Within 544 5120 y × (se < 32768) × Codeword width i ⌝ }
-    ensures { λ r. ⌜ r ≡ SD law width y se i sp ⌝ }
+// SYNC's move, by the codeword that the byte requantizes to and the received one. Most bytes requantize to the received one, and no place is looked up.
+fn adjusted(law: u8, width: u8, j: u8, i: u8, sp: u8) -> u8
+    requires { ⌜ Codeword width j × Codeword width i ⌝ }
+    ensures { λ r. ⌜ r ≡ moveOf (IM width j) (IM width i) sp law ⌝ }
 {
-    let j = requantized(law, width, y, se, sp);
     if j == i {
         return sp;
     }

@@ -17,7 +17,7 @@ use Rattle.state.proofs.Ranges.{range-of, reset-in-range, reset-core, reset-num
 use Rattle.frame.specs.Header.{headerOf, sampleCount, isDue}
 use Rattle.frame.specs.Sound.{Sound}
 use Rattle.frame.proofs.Sounds.{sound-none}
-use Rattle.decode.specs.Decode.{decodeReply, decodeOctets, decodeMoved, decodeState, decodeOut}
+use Rattle.decode.specs.Decode.{decodeReply, decodeOctets, decodeDisagreements, decodeState, decodeOut}
 use Rattle.decode.proofs.Fitness.{decode-of, decode-behind}
 use Rattle.tracking.specs.Calls.{Sending, Hearing, hearReply, decoderAfter}
 use Rattle.tracking.specs.History.{numberedFrames, isNumberedFrame, accepted, afterAll, Brings, AllBehind, Refused, AllRefused}
@@ -52,8 +52,8 @@ module _ (t : State) (d : Hearing) (k : Hearable t d) where
 
 -- a refusal with 10 leaves all as it was
 refused : (t : State) (d : Hearing) → hearReply t d ≡ 10 → Refused t d
-unfolding decodeOctets decodeMoved decodeState decodeOut
-refused t d number = record { number = number; octets = rw number; moved = rw number; state = rw number; out = rw number }
+unfolding decodeOctets decodeDisagreements decodeState decodeOut
+refused t d number = record { number = number; octets = rw number; disagreements = rw number; state = rw number; out = rw number }
 
 module _ {core n : ℕ} (t : State) (d : Hearing) (i : InRange t) (law : d .law ≤ 1) (b : Bearing core n (d .frame)) (e : core ≡ t .core) where
   hears : Hearable t d

@@ -10,7 +10,7 @@ use Rattle.words.specs.Notation.{pick}
 use Rattle.lists.specs.Run.{last, total}
 use Rattle.state.specs.declared.State.{State}
 use Rattle.frame.specs.Header.{headerOf, isNumbered}
-use Rattle.decode.specs.Decode.{decodeOctets, decodeMoved, decodeOut}
+use Rattle.decode.specs.Decode.{decodeOctets, decodeDisagreements, decodeOut}
 use Rattle.tracking.specs.Calls.{Sending, Station, Hearing, sendReply, written, encoderAfter, hearReply, decoderAfter, arrived, Passed}
 
 -- whether a call writes an edition 2 frame, and the edition 2 frames that an encoder has written, each at its place from 0
@@ -58,7 +58,7 @@ AllBehind frames lost (d ∷ ds) = (isNumberedFrame d ≡ true → Behind frames
 pub record Refused (t : State) (d : Hearing) : Type 0 where
   pub number : hearReply t d ≡ 10
   pub octets : decodeOctets t (d .law) (d .frame) (d .buffer) ≡ 0
-  pub moved : decodeMoved t (d .law) (d .frame) (d .buffer) ≡ 0
+  pub disagreements : decodeDisagreements t (d .law) (d .frame) (d .buffer) ≡ 0
   pub state : decoderAfter t d ≡ t
   pub out : decodeOut t (d .law) (d .frame) (d .buffer) ≡ d .buffer
 

@@ -85,9 +85,9 @@ fn given(note: Note) -> Line {
 fn answered(line: Line, core: u8, codeword: u8, p: Played) -> Line {
     let memory = p.memory;
     let byte = p.byte as u64;
-    let moved = p.moved as u64;
+    let disagreement = p.disagreement as u64;
     line.next(codeword as u64)
         .next(byte)
-        .next(moved)
+        .next(disagreement)
         .next(of_state(state_of(core, memory)) as u64)
 }

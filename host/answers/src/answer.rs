@@ -71,7 +71,10 @@ fn to_decode(c: &Decode) -> String {
     let mut out = c.out.clone();
     let a = calls::decode(c.state, c.law, &c.frame, &mut out);
     let (out, state) = (write_octets(&out), write_state(&a.state));
-    format!("{} {} {} {out} {state}", a.number, a.octets, a.moved)
+    format!(
+        "{} {} {} {out} {state}",
+        a.number, a.octets, a.disagreements
+    )
 }
 
 fn to_drop(c: &Drop) -> String {

@@ -32,7 +32,7 @@ pub enum Due {
 pub struct Parts {
     pub number: u8,
     pub octets: usize,
-    pub moved: usize,
+    pub disagreements: usize,
     pub out: Vec<u8>,
     pub state: Option<State>,
 }
@@ -41,11 +41,11 @@ pub struct Parts {
 pub fn parts(call: &Call, answer: &str) -> Result<Parts, String> {
     let told = || format!("cannot be read: {answer}");
     let fields: Vec<&str> = answer.split(' ').collect();
-    let read = |out: &str, kept: Option<&str>, moved: &str| -> Option<Parts> {
+    let read = |out: &str, kept: Option<&str>, disagreements: &str| -> Option<Parts> {
         Some(Parts {
             number: fields.first()?.parse().ok()?,
             octets: fields.get(1)?.parse().ok()?,
-            moved: moved.parse().ok()?,
+            disagreements: disagreements.parse().ok()?,
             out: octets(out)?,
             state: match kept {
                 Some(text) => Some(state(text)?),
@@ -56,7 +56,7 @@ pub fn parts(call: &Call, answer: &str) -> Result<Parts, String> {
     match (call, fields.as_slice()) {
         (Call::Reset(_), [_, _, state]) => read("-", Some(state), "0"),
         (Call::Encode(_), [_, _, out, state]) => read(out, Some(state), "0"),
-        (Call::Decode(_), [_, _, moved, out, state]) => read(out, Some(state), moved),
+        (Call::Decode(_), [_, _, count, out, state]) => read(out, Some(state), count),
         (Call::Drop(_), [_, _, out]) => read(out, None, "0"),
         _ => None,
     }
@@ -138,9 +138,9 @@ fn hold_always(call: &Call, found: &Parts) -> Result<(), String> {
     if found.number == 0 {
         hold_header(call, &found.out)?;
         hold_number(call, found.state)?;
-        return at_most("moved", found.moved, written);
+        return at_most("disagreements", found.disagreements, written);
     }
-    same("moved", &found.moved, &0)?;
+    same("disagreements", &found.disagreements, &0)?;
     let texts = [found.state, kept].map(|state| state.map(|s| write_state(&s)));
     match kept {
         Some(_) => same("state", &texts[0], &texts[1]),

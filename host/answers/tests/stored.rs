@@ -4,8 +4,12 @@
 use answers::call::Call;
 use answers::due::{parts, Parts};
 use answers::groups;
+use answers::groups::ends::{meeting, Meeting};
 use answers::page::{Item, Page};
 use answers::stored::{read, ANSWERED};
+use second::frame::{read_header, unpack};
+use second::g711::Law;
+use second::sample;
 use second::state::State;
 use std::collections::BTreeSet;
 
@@ -199,6 +203,31 @@ fn a_held_codeword_takes_b_past_32767() {
     }
 }
 
+/// The group `ends` meets both ends of either scale in every way, and from reset holds each of them at every pair.
+#[test]
+fn the_ends_of_the_scale_are_met_in_every_way() {
+    let mut met = BTreeSet::new();
+    let mut held_from_reset = BTreeSet::new();
+    for (call, answer) in stored().group("ends") {
+        let Call::Decode(c) = call else { continue };
+        let law = Law::from_number(c.law).expect("a law");
+        let header = read_header(&c.frame).expect("a header");
+        let from_reset = c.state == State::reset(header.core);
+        let mut state = c.state;
+        for codeword in unpack(header, &c.frame) {
+            if let Some((end, how)) = meeting(&state, law, header.width, codeword) {
+                met.insert((c.law, end, how));
+                if from_reset && how == Meeting::Held {
+                    held_from_reset.insert((header.width, header.core, c.law, end));
+                }
+            }
+            state = sample::decode(&state, law, header.width, codeword).state;
+        }
+        assert_eq!(answer.state, Some(state));
+    }
+    assert_eq!((met.len(), held_from_reset.len()), (16, 36));
+}
+
 /// The first sample is a transition and sets AP to 256; seven more take it no further than 347. Without it AP stays above 500.
 #[test]
 fn a_transition_at_yl_262144() {
@@ -216,8 +245,8 @@ fn is_of_codec(call: &Call) -> bool {
     )
 }
 
-/// What the calls that were done stand for: both laws and both editions with all nine pairs, every thinning, tones and moved
-/// octets.
+/// What the calls that were done stand for: both laws and both editions with all nine pairs, every thinning, tones and
+/// disagreements.
 #[test]
 fn the_calls_are_many_sided() {
     let stored = stored();
@@ -244,7 +273,7 @@ fn the_calls_are_many_sided() {
         };
     }
     assert_eq!((encoded.len(), decoded.len(), thinned.len()), (36, 36, 38));
-    assert!(done.iter().any(|(_, answer)| answer.moved > 0));
+    assert!(done.iter().any(|(_, answer)| answer.disagreements > 0));
     let tones = done
         .iter()
         .filter(|(_, a)| a.state.is_some_and(|s| s.td == 1));

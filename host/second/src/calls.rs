@@ -26,7 +26,7 @@ pub struct EncodeAnswer {
 pub struct DecodeAnswer {
     pub number: u8,
     pub octets: usize,
-    pub moved: usize,
+    pub disagreements: usize,
     pub state: State,
 }
 
@@ -124,22 +124,23 @@ fn behind(header: Header, last: State) -> State {
     }
 }
 
-/// The whole of `frame` to PCM, with the count of bytes that SYNC moved.
+/// The whole of `frame` to PCM, with the count of samples whose byte, as COMPRESS gave it, would
+/// not be encoded to the codeword received.
 pub fn decode(state: State, law: u8, frame: &[u8], out: &mut [u8]) -> DecodeAnswer {
     match decode_plan(&state, law, frame, out.len()) {
         Err(number) => DecodeAnswer {
             number,
             octets: 0,
-            moved: 0,
+            disagreements: 0,
             state,
         },
         Ok((law, header)) => {
             let codewords = frame::unpack(header, frame);
-            let (moved, last) = decode_samples(state, law, header.width, &codewords, out);
+            let (disagreements, last) = decode_samples(state, law, header.width, &codewords, out);
             DecodeAnswer {
                 number: replies::DONE,
                 octets: header.samples(),
-                moved,
+                disagreements,
                 state: behind(header, last),
             }
         }
@@ -165,14 +166,14 @@ fn decode_samples(
     out: &mut [u8],
 ) -> (usize, State) {
     let mut state = first;
-    let mut moved = 0;
+    let mut disagreements = 0;
     for (octet, &codeword) in out.iter_mut().zip(codewords) {
         let decoded = sample::decode(&state, law, width, codeword);
         *octet = decoded.byte;
-        moved += usize::from(decoded.moved);
+        disagreements += usize::from(decoded.disagrees);
         state = decoded.state;
     }
-    (moved, state)
+    (disagreements, state)
 }
 
 /// The frame with only its first `target` planes.

@@ -16,8 +16,8 @@ pub struct Encoded {
 #[derive(Clone, Copy, Debug, PartialEq, Eq)]
 pub struct Decoded {
     pub byte: u8,
-    /// Whether the byte is another than COMPRESS gave.
-    pub moved: bool,
+    /// Whether COMPRESS's byte is requantized to another codeword than came, moved or not.
+    pub disagrees: bool,
     pub state: State,
 }
 
@@ -40,7 +40,7 @@ pub fn decode(state: &State, law: Law, width: u8, codeword: u8) -> Decoded {
     let sd = sync(law, width, sp, requantized, codeword);
     Decoded {
         byte: sd,
-        moved: sd != sp,
+        disagrees: requantized != codeword,
         state: advance(state, thinned(width, codeword, state.core)),
     }
 }

@@ -100,7 +100,10 @@ impl Decoder {
         let answer = decode(self.state, 0, frame, &mut out);
         if answer.number != 0 {
             assert_eq!(answer.state, self.state);
-            assert_eq!((answer.octets, answer.moved, out), (0, 0, [0xA5; 24]));
+            assert_eq!(
+                (answer.octets, answer.disagreements, out),
+                (0, 0, [0xA5; 24])
+            );
         }
         self.state = answer.state;
         self.taken += usize::from(answer.number == 0 && frame[0] >> 6 == 2);

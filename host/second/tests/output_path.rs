@@ -39,7 +39,8 @@ fn neighbour(law: Law, byte: u8, side: Ordering) -> u8 {
     *found.unwrap_or(&byte)
 }
 
-fn printed_sync(law: Law, width: u8, received: u8, sp: u8, now: Estimate) -> u8 {
+/// How the place of the byte's codeword, by Tables 17 to 20, stands to that of the received one.
+fn printed_order(law: Law, width: u8, received: u8, sp: u8, now: Estimate) -> Ordering {
     let dx = expand(law, sp) - now.se;
     let id = printed::id(width, u8::from(dx < 0), dln_word(dx, now.y));
     let half = 1 << (width - 1);
@@ -47,25 +48,25 @@ fn printed_sync(law: Law, width: u8, received: u8, sp: u8, now: Estimate) -> u8 
         0 => received + half,
         _ => received & (half - 1),
     };
-    match id.cmp(&im) {
-        Ordering::Less => neighbour(law, sp, Ordering::Greater),
-        Ordering::Equal => sp,
-        Ordering::Greater => neighbour(law, sp, Ordering::Less),
-    }
+    id.cmp(&im)
 }
 
 fn check_decoder(state: &State, law: Law, width: u8, codeword: u8) -> bool {
     let now = estimate(state);
     let sp = compress(law, reconstruct(width, codeword, now.y) + now.se);
-    let sd = printed_sync(law, width, codeword, sp, now);
+    let order = printed_order(law, width, codeword, sp, now);
+    let sd = match order {
+        Ordering::Equal => sp,
+        side => neighbour(law, sp, side.reverse()),
+    };
     let found = decode(state, law, width, codeword);
     assert_eq!(found.byte, sd, "{codeword:b} at {width}, {state:?}");
-    assert_eq!(found.moved, sd != sp);
+    assert_eq!(found.disagrees, order != Ordering::Equal);
     assert_eq!(
         found.state,
         advance(state, codeword >> (width - state.core))
     );
-    found.moved
+    found.disagrees
 }
 
 fn check_encoder(state: &State, law: Law, width: u8, byte: u8) {
@@ -82,14 +83,14 @@ fn one_sample_from_any_state_at_every_pair() {
     let mut random = Random::new(30);
     for (width, core) in PAIRS {
         for law in Law::BOTH {
-            let mut moved = 0;
+            let mut disagreements = 0;
             for _ in 0..3_000 {
                 let state = any_state(&mut random, core);
                 let codeword = random.below(1 << width) as u8;
-                moved += u32::from(check_decoder(&state, law, width, codeword));
+                disagreements += u32::from(check_decoder(&state, law, width, codeword));
                 check_encoder(&state, law, width, random.byte());
             }
-            assert!(moved > 0);
+            assert!(disagreements > 0);
         }
     }
 }

@@ -94,30 +94,31 @@ fn enhancement_bits_do_not_reach_the_state() {
     }
 }
 
-/// At width 2 the intervals are so wide that none of these bytes has to move.
+/// At width 2 the intervals are so wide that none of these bytes disagrees.
 #[test]
-fn the_moved_count_is_the_count_of_moved_samples() {
+fn the_count_is_that_of_samples_that_disagree() {
     let mut random = Random::new(13);
     for (width, core) in PAIRS {
         let (mut sender, mut receiver) = (State::reset(core), State::reset(core));
-        let mut moved_ever = 0;
+        let mut ever = 0;
         for _ in 0..20 {
             let mut frame = vec![0; 2 + 40 * usize::from(width)];
             sender = encode(sender, 1, 1, width, &pcm(&mut random, 1, 320), &mut frame).state;
             let mut state = receiver;
-            let mut moved = 0;
+            let mut disagreements = 0;
             let header = read_header(&frame).unwrap();
             for codeword in unpack(header, &frame) {
                 let decoded = sample::decode(&state, Law::A, width, codeword);
-                moved += usize::from(decoded.moved);
+                disagreements += usize::from(decoded.disagrees);
                 state = decoded.state;
             }
             let answer = decode(receiver, 1, &frame, &mut [0; 320]);
-            assert_eq!((answer.moved, answer.state), (moved, state));
+            let found = (answer.disagreements, answer.state);
+            assert_eq!(found, (disagreements, state));
             receiver = answer.state;
-            moved_ever += moved;
+            ever += disagreements;
         }
-        assert!(moved_ever > 0 || width == 2, "at ({width},{core})");
+        assert!(ever > 0 || width == 2, "at ({width},{core})");
     }
 }
 

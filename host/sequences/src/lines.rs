@@ -31,7 +31,7 @@ pub fn lines(inputs: &Inputs) -> Vec<String> {
         .collect()
 }
 
-/// `INDEX IN CODEWORD BYTE MOVED STATECHECKSUM` for each sample, counted from 0.
+/// `INDEX IN CODEWORD BYTE DISAGREES STATECHECKSUM` for each sample, counted from 0.
 pub fn dump(sequence: &Sequence, inputs: &Inputs) -> Vec<String> {
     let samples = play(sequence, inputs).samples;
     samples.iter().enumerate().map(sample_line).collect()
@@ -46,7 +46,7 @@ fn sample_line((index, sample): (usize, &Sample)) -> String {
         "{index} {octet} {} {} {} {}",
         sample.codeword,
         sample.byte,
-        u8::from(sample.moved),
+        u8::from(sample.disagrees),
         checksum::of_state(&sample.state)
     )
 }

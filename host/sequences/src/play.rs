@@ -12,7 +12,7 @@ pub struct Sample {
     pub octet: Option<u8>,
     pub codeword: u8,
     pub byte: u8,
-    pub moved: bool,
+    pub disagrees: bool,
     /// The decoder's state after the sample.
     pub state: State,
 }
@@ -49,7 +49,7 @@ impl Ends {
             octet: None,
             codeword,
             byte: decoded.byte,
-            moved: decoded.moved,
+            disagrees: decoded.disagrees,
             state: decoded.state,
         }
     }

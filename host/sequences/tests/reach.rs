@@ -70,7 +70,7 @@ fn transitions_happen_at_every_core() {
 }
 
 #[test]
-fn every_codeword_is_sent_and_bytes_are_moved() {
+fn every_codeword_is_sent_and_bytes_disagree() {
     for (width, core) in PAIRS {
         let samples = samples(|sequence| (sequence.width, sequence.core) == (width, core));
         for codeword in 0..1 << width {
@@ -78,7 +78,7 @@ fn every_codeword_is_sent_and_bytes_are_moved() {
             assert!(samples.iter().any(sent), "{codeword} at ({width},{core})");
         }
         assert!(
-            samples.iter().any(|sample| sample.moved),
+            samples.iter().any(|sample| sample.disagrees),
             "({width},{core})"
         );
     }

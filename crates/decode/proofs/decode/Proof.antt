@@ -11,7 +11,7 @@ use Rattle.frame.specs.Read.{body, received}
 use Rattle.frame.proofs.Codewords.{read-length}
 use Rattle.replies.specs.Reply.{numberOf}
 use Rattle.replies.proofs.Answers.{refusal, success, is-refusal, is-success}
-use Rattle.decode.specs.Decode.{decodeReply, decodeOctets, decodeMoved, decodeState, decodeOut}
+use Rattle.decode.specs.Decode.{decodeReply, decodeOctets, decodeDisagreements, decodeState, decodeOut}
 use Rattle.decode.specs.Inner.{Decodable}
 use Rattle.decode.proofs.Fitness.{decode-says}
 use Rattle.decode.proofs.decode.Statement.{statement}
@@ -33,13 +33,13 @@ unfolding decodeReply
 able c = decode-says _ (c .before .before .before .before .before .before .args .law) _ _ _ (fit c) .1
 
 returns : tie.Need-returns
-unfolding decodeOctets decodeMoved decodeState decodeOut
+unfolding decodeOctets decodeDisagreements decodeState decodeOut
 returns c =
     let refused = unfit c in
     record {
       number = number (c .before .before);
       octets = refusal _ _ _ refused;
-      moved = refusal _ _ _ refused;
+      disagreements = refusal _ _ _ refused;
       state = refusal _ _ _ refused;
       out = refusal _ _ _ refused;
     }
@@ -60,7 +60,7 @@ decode-into-requires c κs =
     (k .range, k .sound .header, k .core, simp length-drop (omega (arith, k .sound .whole)), k .space)
 
 returns-2 : tie.Need-returns-2
-unfolding body received decodeOctets decodeMoved decodeState decodeOut
+unfolding body received decodeOctets decodeDisagreements decodeState decodeOut
 returns-2 c =
     let called = c .before .before .before .before .before .before .before in
     let at = called .before in
@@ -71,7 +71,7 @@ returns-2 c =
     record {
       number = number (at .before .before);
       octets = c .sample-count .ensures ∙ rw h (success _ _ _ n);
-      moved = d .moved ∙ success _ _ _ n;
+      disagreements = d .disagreements ∙ success _ _ _ n;
       state = d .state ∙ success _ _ _ n;
       out = d .out ∙ rw (read-length (headerOf f .width) (headerOf f .groups) (body f)) (success _ _ _ n);
     }

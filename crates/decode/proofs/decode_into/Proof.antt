@@ -7,19 +7,20 @@ use denote.Ref.{now}
 use lib.ListN.{length, getD}
 use Rattle.quantizer.specs.Pair.{Pair}
 use Rattle.quantizer.proofs.Pairs.{pair-width}
+use Rattle.sample.proofs.Disagreements.{disagreement-bit}
 use Rattle.frame.specs.Header.{mostGroups, sampleCount}
 use Rattle.frame.specs.Read.{codewords}
 use Rattle.frame.proofs.Codewords.{read-length, read-at, read-short}
 use Rattle.decode.proofs.Decoding.{decoding-none}
-use Rattle.decode.proofs.Playing.{moved-bit, Playing, playing-more, playing-done}
+use Rattle.decode.proofs.Playing.{Playing, playing-more, playing-done}
 use Rattle.decode.proofs.decode_into.Statement.{statement}
 use Rattle.decode.proofs.decode_into.Tie as tie
 
 abbrev Inv-loop : tie.InvT-loop
-Inv-loop s law h planes out₀ n g memory₀ moved₀ k₀ out memory moved k = Playing law (s .core) (h .width) (s .memory) (codewords (h .width) (h .groups) planes) out₀ k memory moved out
+Inv-loop s law h planes out₀ n g memory₀ disagreements₀ k₀ out memory disagreements k = Playing law (s .core) (h .width) (s .memory) (codewords (h .width) (h .groups) planes) out₀ k memory disagreements out
 
 abbrev μ-loop : tie.MeasureT-loop
-μ-loop s law h planes out₀ n g memory₀ moved₀ k₀ out memory moved k = n - k
+μ-loop s law h planes out₀ n g memory₀ disagreements₀ k₀ out memory disagreements k = n - k
 
 -- the header's core is the state's, so its width makes a pair with it
 pair : (c : tie.Start Inv-loop μ-loop) → Pair (c .args .h .width) (c .args .s .core)
@@ -37,8 +38,8 @@ codeword-is : (c : tie.After-codeword-at Inv-loop μ-loop)
     → c .codeword-at .result ≡ getD (codewords (c .before .before .before .before .before .before .before .before .args .h .width) (c .before .before .before .before .before .before .before .before .args .h .groups) (now (c .before .before .before .before .before .before .before .before .args .planes))) (c .before .before .loop .k) 0
 codeword-is c = c .codeword-at .ensures ∙ sym (read-at _ _ _ _ (more (c .before)))
 
-moved-few : (c : tie.After-struct-known2 Inv-loop μ-loop) → c .before .decode-byte .result .moved ≤ 1
-moved-few c = rw (c .before .decode-byte .ensures) (moved-bit _ _ _ _ _)
+disagreement-few : (c : tie.After-struct-known2 Inv-loop μ-loop) → c .before .decode-byte .result .disagreement ≤ 1
+disagreement-few c = rw (c .before .decode-byte .ensures) (disagreement-bit _ _ _ _ _)
 
 loop-holds : tie.Need-loop-holds Inv-loop μ-loop
 loop-holds c =
@@ -63,14 +64,14 @@ slice-write-out c =
     let inv = c .before .before .before .loop .inv in
     omega (arith, within (c .before .before), inv .filled .size, inv .filled .room)
 
-cast-moved : tie.Need-cast-moved Inv-loop μ-loop
-cast-moved c = omega (arith, moved-few c)
+cast-disagreements : tie.Need-cast-disagreements Inv-loop μ-loop
+cast-disagreements c = omega (arith, disagreement-few c)
 
-add-moved : tie.Need-add-moved Inv-loop μ-loop
+add-disagreements : tie.Need-add-disagreements Inv-loop μ-loop
 unfolding mostGroups
-add-moved c =
+add-disagreements c =
     let at = c .before .before .before .before .before .before .before .before .before .before in
-    omega (arith, moved-few c, c .before .before .before .before .loop .inv .few, more (c .before .before .before), at .pre .1 .count .high)
+    omega (arith, disagreement-few c, c .before .before .before .before .loop .inv .few, more (c .before .before .before), at .pre .1 .count .high)
 
 add-k : tie.Need-add-k Inv-loop μ-loop
 add-k c = omega arith
@@ -107,8 +108,8 @@ decode-into-spec =
     codeword-at-requires
     decode-byte-requires
     slice-write-out
-    cast-moved
-    add-moved
+    cast-disagreements
+    add-disagreements
     add-k
     loop-less
     loop-again

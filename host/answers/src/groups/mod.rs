@@ -9,6 +9,7 @@ mod cuts;
 mod drawn;
 mod drawn_texts;
 mod editions;
+pub mod ends;
 mod limits;
 mod lines;
 mod lost;
@@ -35,7 +36,7 @@ mod writers;
 mod written;
 mod zeros;
 
-const GROUPS: [fn(&mut Page); 42] = [
+const GROUPS: [fn(&mut Page); 43] = [
     worked::frames,
     worked::first_bytes,
     worked::levels,
@@ -70,6 +71,7 @@ const GROUPS: [fn(&mut Page); 42] = [
     transitions::transitions,
     output_path::decisions,
     output_path::synchronous,
+    ends::ends,
     drawn::drawn,
     texts::texts,
     cuts::cuts,

@@ -105,11 +105,11 @@ pub fn decoded(ask: &Decoding) -> u8 {
         let samples = 8 * usize::from(ask.frame[1]);
         let number = number_behind(&ask.state, ask.frame[0] >> 6);
         assert_eq!((answer.octets, answer.state.number), (samples, number));
-        assert!(answer.moved <= samples);
+        assert!(answer.disagreements <= samples);
         assert!(out[samples..].iter().all(|&octet| octet == FILL));
         assert_ne!(answer.state, ask.state);
     } else {
-        assert_eq!((answer.octets, answer.moved), (0, 0));
+        assert_eq!((answer.octets, answer.disagreements), (0, 0));
         assert_eq!(answer.state, ask.state);
         assert!(out.iter().all(|&octet| octet == FILL));
     }
