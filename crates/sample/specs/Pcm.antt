@@ -44,7 +44,8 @@ module _ (LAW core width : ℕ) where
   playOf m I =
       let d = decodeOf core width m I in
       let sp = COMPRESS (d .sr) LAW in
-      record { byte = SD LAW width (d .y) (d .se) I sp; disagreement = disagreement LAW width (d .y) (d .se) I sp; memory = d .memory }
+      let sd = SD LAW width (d .y) (d .se) I sp in
+      record { byte = sd; disagreement = disagreement LAW width (d .y) (d .se) I sp; memory = d .memory }
 
   -- as a step of a run: what is put out, and what is counted
   abbrev pub byteOf : Memory → ℕ → ℕ

@@ -16,18 +16,18 @@ const WIDTH: u8 = CORE;
 const BLOCK: usize = 100;
 const DRAWN_STATES: usize = 300_000;
 
-/// How many samples agreed with spandsp's, and at how many of them SYNC found a disagreement:
-/// without some of these the comparison would say nothing of SYNC.
+/// How many samples agreed, and how many decoded bytes among them SYNC had moved: without some
+/// of these the comparison would say nothing of SYNC.
 #[derive(Clone, Copy, Default)]
 pub struct Count {
     pub samples: usize,
-    pub disagreements: usize,
+    pub moved: usize,
 }
 
 impl AddAssign for Count {
     fn add_assign(&mut self, more: Count) {
         self.samples += more.samples;
-        self.disagreements += more.disagreements;
+        self.moved += more.moved;
     }
 }
 
@@ -49,13 +49,8 @@ pub fn compare_everything() -> Agreed {
 }
 
 fn report(kind: &str, law: Law, count: Count) {
-    let Count {
-        samples,
-        disagreements,
-    } = count;
-    println!(
-        "peer: {kind}, {law:?}-law: {samples} samples agree, SYNC acted on {disagreements} of them"
-    );
+    let Count { samples, moved } = count;
+    println!("peer: {kind}, {law:?}-law: {samples} samples agree, {moved} of them moved by SYNC");
 }
 
 fn signals(kind: &str, signals: &[Signal]) -> Agreed {
@@ -128,7 +123,7 @@ fn decoders(name: &str, law: Law, codes: &[u8]) -> Agreed {
             let ours = sample::decode(&state, law, WIDTH, code);
             same(name, law, done.samples, "byte", ours.byte, theirs)?;
             done.samples += 1;
-            done.disagreements += usize::from(ours.disagrees);
+            done.moved += usize::from(ours.byte != ours.compressed);
             state = ours.state;
         }
         same(name, law, done.samples, "state", state, peer.state())?;
@@ -146,9 +141,9 @@ fn drawn_states() -> Agreed {
         for index in 0..DRAWN_STATES {
             let state = inputs::limited_state(&mut random, CORE);
             encoder_step(&mut peer, &state, law, index, random.draw() as u8)?;
-            let disagrees = decoder_step(&mut peer, &state, law, index, random.below(4) as u8)?;
+            let moved = decoder_step(&mut peer, &state, law, index, random.below(4) as u8)?;
             count.samples += 2;
-            count.disagreements += usize::from(disagrees);
+            count.moved += usize::from(moved);
         }
         report("steps from drawn states", law, count);
         total += count;
@@ -184,7 +179,7 @@ fn decoder_step(
     let theirs = peer.decode(&[code])[0];
     same(&name, law, index, "byte", ours.byte, theirs)?;
     same(&name, law, index, "state", ours.state, peer.state())?;
-    Ok(ours.disagrees)
+    Ok(ours.byte != ours.compressed)
 }
 
 fn same<T: PartialEq + std::fmt::Debug>(

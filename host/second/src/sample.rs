@@ -16,7 +16,9 @@ pub struct Encoded {
 #[derive(Clone, Copy, Debug, PartialEq, Eq)]
 pub struct Decoded {
     pub byte: u8,
-    /// Whether COMPRESS's byte is requantized to another codeword than came, moved or not.
+    /// The byte that COMPRESS gave, before SYNC.
+    pub compressed: u8,
+    /// Whether that is requantized to another codeword than came, and moved or not.
     pub disagrees: bool,
     pub state: State,
 }
@@ -40,6 +42,7 @@ pub fn decode(state: &State, law: Law, width: u8, codeword: u8) -> Decoded {
     let sd = sync(law, width, sp, requantized, codeword);
     Decoded {
         byte: sd,
+        compressed: sp,
         disagrees: requantized != codeword,
         state: advance(state, thinned(width, codeword, state.core)),
     }

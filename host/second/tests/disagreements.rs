@@ -5,7 +5,7 @@
 use random::states::{any_state, PAIRS};
 use random::Random;
 use second::engine::estimate;
-use second::g711::{compress, Law};
+use second::g711::Law;
 use second::quantizer::reconstruct;
 use second::sample::{decode, encode};
 use second::state::State;
@@ -24,18 +24,12 @@ fn outermost(width: u8) -> [u8; 2] {
     [half - 1, half]
 }
 
-fn compressed(state: &State, law: Law, width: u8, codeword: u8) -> u8 {
-    let now = estimate(state);
-    compress(law, reconstruct(width, codeword, now.y) + now.se)
-}
-
 /// The byte, where it disagrees and stays.
 fn held(state: &State, law: Law, width: u8, codeword: u8) -> Option<u8> {
-    let sp = compressed(state, law, width, codeword);
     let found = decode(state, law, width, codeword);
-    let stays = found.byte == sp;
+    let stays = found.byte == found.compressed;
     assert!(stays || found.disagrees, "{codeword} at {width}, {state:?}");
-    (stays && found.disagrees).then_some(sp)
+    (stays && found.disagrees).then_some(found.byte)
 }
 
 /// The bytes that are held in a stream from reset; the state before a sample gives its codeword.
@@ -85,9 +79,9 @@ fn an_outermost_codeword_at_the_greatest_scale_factor() {
         for law in Law::BOTH {
             for (codeword, end) in outermost(5).into_iter().zip(ends(law)) {
                 assert_eq!(reconstruct(5, codeword, now.y).abs(), 12_800);
-                assert_eq!(compressed(&state, law, 5, codeword), end);
                 let found = decode(&state, law, 5, codeword);
-                assert_eq!((found.byte, found.disagrees), (end, true));
+                assert_eq!([found.compressed, found.byte], [end, end]);
+                assert!(found.disagrees);
             }
         }
     }

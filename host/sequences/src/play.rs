@@ -12,6 +12,8 @@ pub struct Sample {
     pub octet: Option<u8>,
     pub codeword: u8,
     pub byte: u8,
+    /// The byte before SYNC.
+    pub compressed: u8,
     pub disagrees: bool,
     /// The decoder's state after the sample.
     pub state: State,
@@ -49,6 +51,7 @@ impl Ends {
             octet: None,
             codeword,
             byte: decoded.byte,
+            compressed: decoded.compressed,
             disagrees: decoded.disagrees,
             state: decoded.state,
         }

@@ -70,7 +70,7 @@ fn transitions_happen_at_every_core() {
 }
 
 #[test]
-fn every_codeword_is_sent_and_bytes_disagree() {
+fn every_codeword_is_sent_and_bytes_are_moved() {
     for (width, core) in PAIRS {
         let samples = samples(|sequence| (sequence.width, sequence.core) == (width, core));
         for codeword in 0..1 << width {
@@ -78,7 +78,9 @@ fn every_codeword_is_sent_and_bytes_disagree() {
             assert!(samples.iter().any(sent), "{codeword} at ({width},{core})");
         }
         assert!(
-            samples.iter().any(|sample| sample.disagrees),
+            samples
+                .iter()
+                .any(|sample| sample.byte != sample.compressed),
             "({width},{core})"
         );
     }

@@ -6,9 +6,7 @@ use crate::page::Page;
 use random::states::{any_state, PAIRS};
 use random::Random;
 use second::calls;
-use second::engine::estimate;
-use second::g711::{compress, Law};
-use second::quantizer::reconstruct;
+use second::g711::Law;
 use second::sample;
 use second::state::State;
 
@@ -42,16 +40,15 @@ pub const MEETINGS: [Meeting; 4] = [
 
 /// Which end the sample meets, and how; none where it meets no end.
 pub fn meeting(state: &State, law: Law, width: u8, codeword: u8) -> Option<(u8, Meeting)> {
-    let now = estimate(state);
-    let sp = compress(law, reconstruct(width, codeword, now.y) + now.se);
     let found = sample::decode(state, law, width, codeword);
+    let (from, to) = (found.compressed, found.byte);
     let is_end = |octet| ends_of(law).contains(&octet);
-    match (is_end(sp), found.byte == sp) {
-        (true, true) if found.disagrees => Some((sp, Meeting::Held)),
-        (true, true) => Some((sp, Meeting::Agreed)),
-        (true, false) => Some((sp, Meeting::TurnedBack)),
-        (false, false) if is_end(found.byte) => Some((found.byte, Meeting::Reached)),
-        (false, _) => None,
+    match (is_end(from), is_end(to)) {
+        (true, true) if found.disagrees => Some((from, Meeting::Held)),
+        (true, true) => Some((from, Meeting::Agreed)),
+        (true, false) => Some((from, Meeting::TurnedBack)),
+        (false, true) => Some((to, Meeting::Reached)),
+        (false, false) => None,
     }
 }
 

@@ -16,7 +16,7 @@ fn main() -> ExitCode {
 fn main() -> ExitCode {
     match peer::agreement::compare_everything() {
         Ok(total) => {
-            println!("peer: {} samples, no disagreement", total.samples);
+            println!("peer: {} samples, no difference", total.samples);
             ExitCode::SUCCESS
         }
         Err(disagreement) => {
