@@ -27,6 +27,7 @@ use Rattle.state.proofs.Ranges.{reset-memory-in-range}
 use Rattle.engine.specs.Estimate.{Y, WA1, WA2, WB, predicted, SE}
 use Rattle.sample.specs.Decode.{SR-FF, decodeOf}
 use Rattle.sample.specs.Pcm.{moveOf, SYNC, DX, SD, disagreement, playOf, byteOf, disagreementOf}
+use Rattle.sample.proofs.FirstBytes.{Row, mu, a}
 
 -- the reset memory, but for the greatest YL. AP is 0, so Y goes by YL alone
 abbrev pub loud : Memory
@@ -39,25 +40,14 @@ loud-in-range =
     let r = reset-memory-in-range in
     record { fast = r .fast; slow = omega arith; short = r .short; long = r .long; speed = r .speed; differences = r .differences; signal1 = r .signal1; signal2 = r .signal2; sign1 = r .sign1; sign2 = r .sign2; tone = r .tone }
 
--- a law, a codeword, and the byte that is due before SYNC and behind it
-pub record Row : Type 0 where
-  pub law : ℕ
-  pub codeword : ℕ
-  pub due : ℕ
-
-abbrev mu : ℕ → ℕ → Row
-mu codeword due = record { law = 0; codeword = codeword; due = due }
-
-abbrev a : ℕ → ℕ → Row
-a codeword due = record { law = 1; codeword = codeword; due = due }
-
+-- here the byte is due for the codeword, before SYNC and behind it
 abbrev pub four : List Row
-four = mu 0b01111 0x80 ∷ mu 0b10000 0x00 ∷ a 0b01111 0xAA ∷ a 0b10000 0x2A ∷ []
+four = mu 0x80 0b01111 ∷ mu 0x00 0b10000 ∷ a 0xAA 0b01111 ∷ a 0x2A 0b10000 ∷ []
 
 -- what COMPRESS gives, what is put out, and what is counted
 abbrev pub played : ℕ → Row → ℕ × ℕ × ℕ
 played core r = (COMPRESS (decodeOf core 5 loud (r .codeword) .sr) (r .law), byteOf (r .law) core 5 loud (r .codeword), disagreementOf (r .law) core 5 loud (r .codeword))
 
-pub held-ends : (core : ℕ) → map (played core) four ≡ map (λ (r : Row). (r .due, r .due, 1)) four
+pub held-ends : (core : ℕ) → map (played core) four ≡ map (λ (r : Row). (r .byte, r .byte, 1)) four
 unfolding rows bitLength outputs-mu outputs-A decisions-mu decisions-A SS-mu SS-A EXPAND reached levelOf COMPRESS above above-mu above-T below below-mu below-T SUBTA LOG ANTILOG MIX LIMA ACCUM DQI SEI ADDB EXP MANT WAnMAG FMULT find output table15 outputs RECONST difference IM table20 places ID resetMemory Y WA1 WA2 WB predicted SE SR-FF decodeOf moveOf SYNC DX SD disagreement playOf
 held-ends core = refl

@@ -1,6 +1,6 @@
 pub mod Cores
 pub mod Adjusting
 pub mod Disagreements
-pub mod HeldEnds
 pub mod Tracks
 pub mod FirstBytes
+pub mod HeldEnds
