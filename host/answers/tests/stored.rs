@@ -203,7 +203,8 @@ fn a_held_codeword_takes_b_past_32767() {
     }
 }
 
-/// The group `ends` meets both ends of either scale in every way, and from reset holds each of them at every pair.
+/// The group `ends` meets both ends of either scale in every way, and from reset holds each of them at every pair. What is counted
+/// are the octets that move and those that are held there.
 #[test]
 fn the_ends_of_the_scale_are_met_in_every_way() {
     let mut met = BTreeSet::new();
@@ -213,17 +214,20 @@ fn the_ends_of_the_scale_are_met_in_every_way() {
         let law = Law::from_number(c.law).expect("a law");
         let header = read_header(&c.frame).expect("a header");
         let from_reset = c.state == State::reset(header.core);
-        let mut state = c.state;
+        let (mut state, mut count) = (c.state, 0);
         for codeword in unpack(header, &c.frame) {
-            if let Some((end, how)) = meeting(&state, law, header.width, codeword) {
-                met.insert((c.law, end, how));
-                if from_reset && how == Meeting::Held {
-                    held_from_reset.insert((header.width, header.core, c.law, end));
-                }
+            let at_end = meeting(&state, law, header.width, codeword);
+            let held = at_end.filter(|(_, how)| *how == Meeting::Held);
+            met.extend(at_end.map(|(end, how)| (c.law, end, how)));
+            if let (Some((end, _)), true) = (held, from_reset) {
+                held_from_reset.insert((header.width, header.core, c.law, end));
             }
-            state = sample::decode(&state, law, header.width, codeword).state;
+            let decoded = sample::decode(&state, law, header.width, codeword);
+            let moved = decoded.byte != decoded.compressed;
+            count += usize::from(moved || held.is_some());
+            state = decoded.state;
         }
-        assert_eq!(answer.state, Some(state));
+        assert_eq!((answer.disagreements, answer.state), (count, Some(state)));
     }
     assert_eq!((met.len(), held_from_reset.len()), (16, 36));
 }
