@@ -5,8 +5,9 @@ use mathlib.Core.Bool.{Bool}
 use Prim.Native.Nat.{ℕ, _+_, _-_, _*_, _%_, _^_, _≤_, _<_}
 use native.Mathlib.Omega.{arith}
 use lib.Dec.{T, eqb, leb, ltb, eqb→eq, leb→le, ltb→lt}
-use borrow.Author.Tests.{lt-ltb, le-ltb}
+use borrow.Author.Tests.{lt-ltb, le-ltb, eq-eqb, ne-eqb, eqb-true, eqb-false}
 use Rattle.words.specs.Notation.{pick}
+use Rattle.words.proofs.Pick.{cases}
 use Rattle.quantizer.specs.Codeword.{Width, Codeword, CoreCodeword}
 use Rattle.quantizer.specs.Multiplier.{IM-core}
 use Rattle.quantizer.specs.Sync.{IM}
@@ -76,6 +77,13 @@ module _ {w I : ℕ} (h : Codeword w I) where
 
 pub place-one-to-one : {w I J : ℕ} → Codeword w I → Codeword w J → IM w I ≡ IM w J → I ≡ J
 place-one-to-one {w} h k e = sym (place-back h) ∙ ap (IM w) e ∙ place-back k
+
+-- so comparing places is comparing codewords
+pub places-apart : {w I J : ℕ} → Codeword w I → Codeword w J → eqb (IM w I) (IM w J) ≡ eqb I J
+places-apart {w} {I} {J} h k =
+    cases (eqb I J)
+    (λ e. rw e (eq-eqb _ _ (ap (IM w) (eqb-true I J e))))
+    (λ e. rw e (ne-eqb _ _ (λ same. eqb-false I J e (place-one-to-one h k same))))
 
 -- an array of as many entries as the width has magnitudes is read within
 pub magnitude-within : (v : ℕ) {w I m : ℕ} → Codeword w I → w ≡ v → m ≡ IM-core w I → m < 2 ^ (v - 1)

@@ -4,15 +4,14 @@ use mathlib.Core.Path.{_≡_, sym, ap}
 use Prim.Native.Nat.{ℕ, _≤_, _<_}
 use native.Mathlib.Omega.{arith}
 use lib.Dec.{eqb}
-use borrow.Author.Tests.{le-ltb, eq-eqb, ne-eqb, eqb-true, eqb-false}
+use borrow.Author.Tests.{le-ltb, eq-eqb}
 use Rattle.words.specs.Notation.{pick}
-use Rattle.words.proofs.Pick.{cases}
 use Rattle.g711.specs.Expand.{EXPAND}
 use Rattle.logarithm.proofs.Range.{subta-word}
 use Rattle.quantizer.specs.Codeword.{Width, Codeword}
 use Rattle.quantizer.specs.Sync.{IM}
 use Rattle.quantizer.proofs.Coding.{codeword-range, codeword-place}
-use Rattle.quantizer.proofs.Halves.{place-one-to-one}
+use Rattle.quantizer.proofs.Halves.{places-apart}
 use Rattle.sample.specs.Pcm.{moveOf, SYNC, DX, requantized, SD, disagreement}
 
 -- where the places are one, the byte stays
@@ -21,13 +20,6 @@ unfolding moveOf
 stays {ID} {IM} SP LAW e =
     let not-less : IM ≤ ID = omega arith in
     rw (le-ltb ID IM not-less, eq-eqb ID IM e)
-
--- two codewords have two places
-places-apart : {width I J : ℕ} → Codeword width J → Codeword width I → eqb (IM width J) (IM width I) ≡ eqb J I
-places-apart {width} {I} {J} j i =
-    cases (eqb J I)
-    (λ e. rw e (eq-eqb _ _ (ap (IM width) (eqb-true J I e))))
-    (λ e. rw e (ne-eqb _ _ (λ same. eqb-false J I e (place-one-to-one j i same))))
 
 module _ (LAW width Y SE SP : ℕ) (w : Width width) where
   dx-word : DX LAW SE SP < 65536

@@ -18,7 +18,7 @@ pub struct Decoded {
     pub byte: u8,
     /// The byte that COMPRESS gave, before SYNC.
     pub compressed: u8,
-    /// Whether that is requantized to another codeword than came, and moved or not.
+    /// Whether that byte is requantized to another codeword than came, moved or held.
     pub disagrees: bool,
     pub state: State,
 }
