@@ -4,7 +4,7 @@ use Prim.Native.Nat.{ℕ}
 use lib.Dec.{eqb}
 use Rattle.words.specs.Notation.{pick}
 use Rattle.replies.specs.declared.Reply.{Reply}
-use Rattle.replies.specs.declared.Reply.the-variants.{Done, Pair, Count, Room, Range, Header, Length, Core, Target, Law, Number}
+use Rattle.replies.specs.declared.Reply.the-variants.{Done, Pair, Count, Room, Range, Header, Length, Core, Target, Law, Number, Sample}
 use Rattle.replies.specs.Reply.{numberOf}
 
 -- the reply that bears a number
@@ -15,7 +15,7 @@ replyOf n =
     (pick (eqb n 2) Count
     (pick (eqb n 3) Room
     (pick (eqb n 4) Range
-    (pick (eqb n 5) Header (pick (eqb n 6) Length (pick (eqb n 7) Core (pick (eqb n 8) Target (pick (eqb n 9) Law Number)))))))))
+    (pick (eqb n 5) Header (pick (eqb n 6) Length (pick (eqb n 7) Core (pick (eqb n 8) Target (pick (eqb n 9) Law (pick (eqb n 10) Number Sample))))))))))
 
 back : (r : Reply) → replyOf (numberOf r) ≡ r
 unfolding replyOf
@@ -30,6 +30,7 @@ back Core = refl
 back Target = refl
 back Law = refl
 back Number = refl
+back Sample = refl
 
 pub reply-equal : (a b : Reply) → numberOf a ≡ numberOf b → a ≡ b
 reply-equal a b e = sym (back a) ∙ ap replyOf e ∙ back b

@@ -15,6 +15,7 @@ pub enum Reply {
     Target,
     Law,
     Number,
+    Sample,
 }
 
 // The number of a reply, for whoever prints or sends it.
@@ -33,6 +34,7 @@ pub fn number_of(reply: Reply) -> u8
         Reply::Target => 8,
         Reply::Law => 9,
         Reply::Number => 10,
+        Reply::Sample => 11,
     }
 }
 
