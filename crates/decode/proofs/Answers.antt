@@ -1,25 +1,20 @@
--- What holds of every answer of decode: what it reports as written fits, and the contract leaves no choice.
+-- Two conforming answers of decode are equal, and so are the exit buffers.
 use mathlib.Core.List.{List}
-use mathlib.Core.Path.{_≡_, sym, _∙_}
-use Prim.Native.Nat.{ℕ, _≤_}
-use lib.ListN.{length}
+use mathlib.Core.Path.{_≡_}
+use Prim.Native.Nat.{ℕ}
 use Rattle.state.specs.declared.State.{State}
-use Rattle.frame.specs.Header.{headerOf}
-use Rattle.replies.proofs.Answers.{counted}
-use Rattle.replies.proofs.Equal.{reply-equal}
+use Rattle.sample.specs.End.{pcm}
+use Rattle.codewords.specs.Decode.{Decodes}
+use Rattle.codewords.proofs.Answers.{decode-equal}
 use Rattle.decode.specs.declared.DecodeAnswer.{DecodeAnswer}
-use Rattle.decode.specs.Decode.{decodeReply, decodeOctets, Decodes}
-use Rattle.decode.proofs.Fitness.{decode-says}
 
-module _ (s : State) (LAW : ℕ) (frame before : List ℕ) where
-  -- what is reported as written fits the buffer that was lent
-  pub decode-room : decodeOctets s LAW frame before ≤ length before
-  unfolding decodeOctets decodeReply
-  decode-room = counted _ _ _ (λ e. decode-says s LAW (headerOf frame) (length frame) (length before) e .1 .space)
+module _ (s : State) (LAW : ℕ) (frame before after : List ℕ) where
+  -- what decode promises of its answer
+  abbrev pub Answers : DecodeAnswer → Type 0
+  Answers r = Decodes (pcm LAW) s frame before after (r .reply) (r .octets) (r .disagreements) (r .state)
 
-  -- two conforming answers are equal, and so are the exit buffers
-  pub decode-equal : (after after′ : List ℕ) (a b : DecodeAnswer) → Decodes s LAW frame before after a → Decodes s LAW frame before after′ b
-      → (a ≡ b) × (after ≡ after′)
-  decode-equal after after′ a b p q =
-      let reply = reply-equal (a .reply) (b .reply) (p .number ∙ sym (q .number)) in
-      (λ i. record { reply = reply i; octets = (p .octets ∙ sym (q .octets)) i; disagreements = (p .disagreements ∙ sym (q .disagreements)) i; state = (p .state ∙ sym (q .state)) i }, p .out ∙ sym (q .out))
+pub answers-equal : (s : State) (LAW : ℕ) (frame before after after′ : List ℕ) (a b : DecodeAnswer) → Answers s LAW frame before after a → Answers s LAW frame before after′ b
+    → (a ≡ b) × (after ≡ after′)
+answers-equal s LAW frame before after after′ a b p q =
+    let same = decode-equal (pcm LAW) s frame before p q in
+    (λ i. record { reply = same .0 i; octets = same .1 i; disagreements = same .2 i; state = same .3 i }, same .4)

@@ -1,4 +1,2 @@
-pub mod Fitness
-pub mod Decoding
 pub mod Playing
 pub mod Answers

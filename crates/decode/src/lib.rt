@@ -1,18 +1,17 @@
-// The call decode: its reply, the work, the answer (specs/Decode.antt).
+// The call decode: the G.711 end of a decoder. Its reply, the work, the answer (specs/Decode.antt of codewords).
 ghost use mathlib.Core.Path.{_≡_};
 ghost use Prim.Native.Nat.{_*_, _≤_};
 ghost use lib.ListN.{length};
 ghost use Rattle.state.specs.InRange.{InRange};
+ghost use Rattle.sample.specs.End.{pcm};
 ghost use Rattle.frame.specs.Header.{sampleCount};
 ghost use Rattle.frame.specs.Read.{codewords};
 ghost use Rattle.frame.specs.Sound.{SoundHeader};
-ghost use Rattle.replies.specs.Reply.{numberOf};
-ghost use Rattle.decode.specs.Decode.{decodeNumber, Decodes};
-ghost use Rattle.decode.specs.Inner.{DecodesAll};
+ghost use Rattle.codewords.specs.Decode.{Decodes};
+ghost use Rattle.codewords.specs.Inner.{DecodesAll};
+use codewords::decode_reply;
 use frame::header::Header;
-use frame::header::frame_reply;
 use frame::header::header_length;
-use frame::header::is_due;
 use frame::header::number_after;
 use frame::header::read_header;
 use frame::header::sample_count;
@@ -22,7 +21,6 @@ use replies::is_done;
 use replies::is_law;
 use sample::pcm::decode_byte;
 use state::State;
-use state::in_range;
 use state::moved_on;
 
 pub struct DecodeAnswer {
@@ -39,10 +37,10 @@ pub struct DecodedFrame {
 }
 
 pub fn decode(s: State, law: u8, frame: &[u8], out: &mut [u8]) -> DecodeAnswer
-    ensures { λ r. ⌜ Decodes s law (now (frame .entry)) (now (out .entry)) (now (out .exit)) r ⌝ }
+    ensures { λ r. ⌜ Decodes (pcm law) s (now (frame .entry)) (now (out .entry)) (now (out .exit)) (r .reply) (r .octets) (r .disagreements) (r .state) ⌝ }
 {
     let h = read_header(frame);
-    let reply = decode_reply(s, law, h, frame.len(), out.len());
+    let reply = decode_reply(is_law(law), s, h, frame.len(), out.len());
     if !is_done(reply) {
         return DecodeAnswer {
             reply,
@@ -62,37 +60,10 @@ pub fn decode(s: State, law: u8, frame: &[u8], out: &mut [u8]) -> DecodeAnswer
     }
 }
 
-fn decode_reply(s: State, law: u8, h: Header, length: usize, room: usize) -> Reply
-    ensures { λ r. ⌜ numberOf r ≡ decodeNumber s law h length room ⌝ }
-{
-    if !in_range(s) {
-        return Reply::Range;
-    }
-    if !is_law(law) {
-        return Reply::Law;
-    }
-    let reply = frame_reply(h, length);
-    if !is_done(reply) {
-        return reply;
-    }
-    let same_core = h.core == s.core;
-    let due = is_due(h, s.number);
-    if !same_core {
-        return Reply::Core;
-    }
-    if !due {
-        return Reply::Number;
-    }
-    if room < sample_count(h) {
-        return Reply::Room;
-    }
-    Reply::Done
-}
-
 // Each sample's byte, from the frame's planes, and what the state and the count of disagreements come to
 fn decode_into(s: State, law: u8, h: Header, planes: &[u8], out: &mut [u8]) -> DecodedFrame
     requires { ⌜ InRange s × SoundHeader h × (h .core ≡ s .core) × (h .width * h .groups ≤ length (now planes)) × (sampleCount h ≤ length (now out)) ⌝ }
-    ensures { λ r. ⌜ DecodesAll law s h (codewords (h .width) (h .groups) (now (planes .entry))) (now (out .entry)) (now (out .exit)) r ⌝ }
+    ensures { λ r. ⌜ DecodesAll (pcm law) s h (codewords (h .width) (h .groups) (now (planes .entry))) (now (out .entry)) (now (out .exit)) (r .disagreements) (r .state) ⌝ }
 {
     let n = sample_count(h);
     let g = h.groups as usize;

@@ -7,7 +7,7 @@ use Prim.Native.Nat.{ℕ}
 use native.Mathlib.Omega.{arith}
 use Rattle.quantizer.specs.Pair.{Pair}
 use Rattle.state.specs.declared.State.{State}
-use Rattle.encode.specs.Levels.{encodedFrame}
+use Rattle.levels.specs.Levels.{encodedFrame}
 use Rattle.tracking.specs.Calls.{Sending, Station, sendReply, written, encoderAfter, arrived, Passed, finally}
 use Rattle.tracking.specs.Stream.{atWidth}
 use Rattle.tracking.proofs.Frames.{sentLevels, encodable, written-is, encoder-is, arrives}

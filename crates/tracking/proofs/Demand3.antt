@@ -1,5 +1,5 @@
 -- Demand 3: no thrown-away bit reaches the far end's predictor. From one reset on, whatever was dropped at however many base stations, and
--- whichever law either end speaks, the decoder's state equals the encoder's after every frame. Both are the states of demand 2: what
+-- whether either end speaks mu-law, A-law or linear samples, the decoder's state equals the encoder's after every frame. Both are the states of demand 2: what
 -- encodeState and decodeState of the calls' contracts say, which a call that keeps the reset state does not give.
 use mathlib.Core.List.{List, [], _∷_}
 use mathlib.Core.Path.{_≡_, _∙_}
@@ -18,10 +18,10 @@ use Rattle.frame.proofs.Return.{received-return}
 use Rattle.frame.proofs.Thinning.{received-thinned}
 use Rattle.frame.proofs.Kept.{written-sound}
 use Rattle.reset.specs.Reset.{resetState}
-use Rattle.encode.specs.Levels.{dueHeader, encodedFrame, encodedMemory, encodedCodewords, encodedState}
-use Rattle.encode.proofs.Encoding.{codewords-length}
-use Rattle.decode.specs.Codewords.{decodedMemory, decodedState}
-use Rattle.decode.specs.Decode.{decodeState}
+use Rattle.levels.specs.Levels.{dueHeader, encodedFrame, encodedMemory, encodedCodewords, encodedState}
+use Rattle.levels.proofs.Encoding.{codewords-length}
+use Rattle.codewords.specs.Codewords.{decodedMemory, decodedState}
+use Rattle.codewords.specs.Decode.{decodeState}
 use Rattle.tracking.specs.Calls.{encoderAfter, finally, decoderAfter}
 use Rattle.tracking.specs.Stream.{Transfer, heard, Unrefused, AllUnrefused, EqualThroughout}
 use Rattle.tracking.proofs.Runs.{memories-track, codewords-short}

@@ -16,15 +16,16 @@ use Rattle.frame.specs.Sound.{Sound}
 use Rattle.frame.proofs.Headers.{thinned-header}
 use Rattle.frame.proofs.Kept.{thinned-sound}
 use Rattle.frame.proofs.Due.{due-of-borne}
-use Rattle.encode.specs.Levels.{dueHeader, encodedFrame}
-use Rattle.encode.specs.Encode.{encodeReply}
-use Rattle.encode.specs.Inner.{Encodable}
-use Rattle.encode.proofs.Fitness.{encode-of}
+use Rattle.sample.specs.End.{isEnd}
+use Rattle.levels.specs.Levels.{dueHeader, encodedFrame}
+use Rattle.levels.specs.Encode.{areTaken, encodeReply}
+use Rattle.levels.specs.Inner.{Encodable}
+use Rattle.levels.proofs.Fitness.{encode-of}
 use Rattle.drop_planes.specs.Drop.{dropReply}
 use Rattle.drop_planes.proofs.Fitness.{drop-of}
-use Rattle.decode.specs.Decode.{decodeReply}
-use Rattle.decode.specs.Inner.{Decodable}
-use Rattle.decode.proofs.Fitness.{decode-of}
+use Rattle.codewords.specs.Decode.{decodeReply}
+use Rattle.codewords.specs.Inner.{Decodable}
+use Rattle.codewords.proofs.Fitness.{decode-of}
 use Rattle.tracking.specs.Calls.{Sending, Station, sendReply, encoderAfter, decoderAfter, Passed, finally}
 use Rattle.tracking.specs.Stream.{Transfer, heard, Unrefused, AllUnrefused, EqualThroughout, Narrowing, sentHeader, FitSending, Fit, AllFit}
 use Rattle.tracking.proofs.Frames.{sentLevels, levels-sized, Sendable, written-is, passed-is, arrives}
@@ -41,7 +42,7 @@ passes frame (b ∷ bs) sound d =
     let on = passed-is frame b fits in
     (fits, rw on (passes (thinned (b .width) frame) bs (thinned-sound frame sound (d .0)) (rw (thinned-header small frame) (d .2))))
 
--- a call of encode with fit inputs, at a state in range
+-- a call of an encoder with fit inputs, at a state in range
 module _ (s : State) (c : Sending) (i : InRange s) (k : FitSending (s .core) c) where
   pub able : Encodable s (dueHeader s (c .edition) (c .width) (length (c .samples))) (length (c .samples)) (length (c .buffer))
   able =
@@ -50,7 +51,7 @@ module _ (s : State) (c : Sending) (i : InRange s) (k : FitSending (s .core) c) 
 
   pub sends : sendReply s c ≡ 0
   unfolding encodeReply
-  sends = encode-of s (c .law) (c .edition) (c .width) (length (c .samples)) (length (c .buffer)) (k .law) able
+  sends = encode-of (isEnd (c .end)) s (c .edition) (c .width) (length (c .samples)) (areTaken (c .end) (c .samples)) (length (c .buffer)) (k .known) (k .taken) able
 
 -- what base stations ask of a header is not its number
 narrowing-numbered : (h : Header) (n : ℕ) (stations : List Station) → Narrowing h stations → Narrowing (record { edition = h .edition; width = h .width; core = h .core; groups = h .groups; number = n }) stations
@@ -98,7 +99,7 @@ module _ (s : State) (x : Transfer) (i : InRange s) (k : Fit (s .core) x) where
       record {
         encodes = encodes;
         drops = rw sent drops;
-        decodes = rw (sent, a .is) (decode-of s (x .law) (headerOf (thinned v frame)) (length (thinned v frame)) (length (x .buffer)) (k .law) decodable);
+        decodes = rw (sent, a .is) (decode-of (isEnd (x .end)) s (headerOf (thinned v frame)) (length (thinned v frame)) (length (x .buffer)) (k .known) decodable);
       }
 
 pub stream-fits : (s : State) (core : ℕ) → InRange s → s .core ≡ core → (xs : List Transfer) → AllFit core xs → AllUnrefused s s xs

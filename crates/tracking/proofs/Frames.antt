@@ -15,11 +15,12 @@ use Rattle.frame.proofs.Sizes.{frame-length}
 use Rattle.frame.proofs.Headers.{thinned-header}
 use Rattle.frame.proofs.Thinning.{thinned-same, thinned-thinned}
 use Rattle.frame.proofs.Kept.{thinned-sound, thinned-length}
-use Rattle.encode.specs.Levels.{dueHeader, encodedFrame, encodedCodewords, encodedState}
-use Rattle.encode.specs.Encode.{levelsOf, encodeReply, encodeOctets, encodeState, encodeOut}
-use Rattle.encode.specs.Inner.{Encodable}
-use Rattle.encode.proofs.Fitness.{encode-says}
-use Rattle.encode.proofs.Expanding.{levels-length}
+use Rattle.sample.specs.End.{isEnd}
+use Rattle.levels.specs.Levels.{dueHeader, encodedFrame, encodedCodewords, encodedState}
+use Rattle.levels.specs.Encode.{areTaken, levelsOf, encodeReply, encodeOctets, encodeState, encodeOut}
+use Rattle.levels.specs.Inner.{Encodable}
+use Rattle.levels.proofs.Fitness.{encode-says}
+use Rattle.levels.proofs.Samples.{levels-length}
 use Rattle.drop_planes.specs.Drop.{dropReply, dropOctets, dropOut}
 use Rattle.drop_planes.specs.Inner.{Droppable}
 use Rattle.drop_planes.proofs.Fitness.{drop-says}
@@ -27,21 +28,21 @@ use Rattle.tracking.specs.Calls.{Sending, Station, sendReply, written, e
 
 -- the levels that the encoder's end makes of the samples
 abbrev pub sentLevels : Sending → List ℕ
-sentLevels c = levelsOf (c .law) (c .samples)
+sentLevels c = levelsOf (c .end) (c .samples)
 
 pub levels-sized : (c : Sending) → length (sentLevels c) ≡ length (c .samples)
-levels-sized c = levels-length (c .law) (c .samples)
+levels-sized c = levels-length (c .end) (c .samples)
 
--- a frame of levels that encode takes, whichever end they come from
+-- a frame of levels that an encoder takes, whichever end they come from
 abbrev pub Sendable : State → ℕ → ℕ → List ℕ → ℕ → Type 0
 Sendable s e width levels room = Encodable s (dueHeader s e width (length levels)) (length levels) room
 
 module _ (s : State) (c : Sending) (fits : sendReply s c ≡ 0) where
   pub encodable : Sendable s (c .edition) (c .width) (sentLevels c) (length (c .buffer))
   unfolding encodeReply
-  encodable = rw (levels-sized c) (encode-says s (c .law) (c .edition) (c .width) (length (c .samples)) (length (c .buffer)) fits .1)
+  encodable = rw (levels-sized c) (encode-says (isEnd (c .end)) s (c .edition) (c .width) (length (c .samples)) (areTaken (c .end) (c .samples)) (length (c .buffer)) fits .2)
 
-  -- the octets that encode reports are the encoded frame
+  -- the octets that the encoder reports are the encoded frame
   pub written-is : written s c ≡ encodedFrame s (c .edition) (c .width) (sentLevels c)
   unfolding written encodeOctets encodeOut encodedFrame
   written-is =

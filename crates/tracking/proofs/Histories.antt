@@ -20,8 +20,9 @@ use Rattle.frame.proofs.Due.{due-says}
 use Rattle.frame.proofs.Headers.{thinned-header}
 use Rattle.frame.proofs.Kept.{thinned-sound}
 use Rattle.reset.specs.Reset.{resetNumber, resetState}
-use Rattle.decode.specs.Decode.{decodeReply}
-use Rattle.decode.proofs.Fitness.{decode-says}
+use Rattle.sample.specs.End.{isEnd}
+use Rattle.codewords.specs.Decode.{decodeReply}
+use Rattle.codewords.proofs.Fitness.{decode-says}
 use Rattle.tracking.specs.Calls.{Sending, Station, Hearing, sendReply, written, encoderAfter, hearReply, arrived, Passed, finally}
 use Rattle.tracking.specs.History.{writes, numberedFrames, accepted, afterAll, Brings}
 use Rattle.tracking.proofs.Frames.{sentLevels, encodable, written-is, arrives}
@@ -104,7 +105,7 @@ handed-number core = by-pick (λ (s : State). s .number ≡ 0) (eqb (resetNumber
 pub accepted-bears : {core n : ℕ} (t : State) (d : Hearing) → Bearing core n (d .frame) → hearReply t d ≡ 0 → n ≡ t .number
 unfolding decodeReply
 accepted-bears t d b done =
-    let k = decode-says t (d .law) (headerOf (d .frame)) (length (d .frame)) (length (d .buffer)) done .1 in
+    let k = decode-says (isEnd (d .end)) t (headerOf (d .frame)) (length (d .frame)) (length (d .buffer)) done .1 in
     sym (b .number-is) ∙ due-says (headerOf (d .frame)) (t .number) (b .numbered) (k .due)
 
 -- both ends reset; the encoder makes any calls, the decoder is given any frames `ds` and then one of this encoder's, thinned or not

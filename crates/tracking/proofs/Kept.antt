@@ -13,11 +13,12 @@ use Rattle.state.specs.InRange.{InRange}
 use Rattle.frame.specs.Header.{headerOf}
 use Rattle.frame.specs.Read.{body, received}
 use Rattle.frame.proofs.Codewords.{read-length, read-short}
-use Rattle.encode.specs.Levels.{encodedMemory, encodedState}
-use Rattle.encode.specs.Encode.{encodeState}
-use Rattle.decode.specs.Codewords.{decodedMemory, decodedState}
-use Rattle.decode.specs.Decode.{decodeReply, decodeState}
-use Rattle.decode.proofs.Fitness.{decode-says}
+use Rattle.sample.specs.End.{isEnd}
+use Rattle.levels.specs.Levels.{encodedMemory, encodedState}
+use Rattle.levels.specs.Encode.{encodeState}
+use Rattle.codewords.specs.Codewords.{decodedMemory, decodedState}
+use Rattle.codewords.specs.Decode.{decodeReply, decodeState}
+use Rattle.codewords.proofs.Fitness.{decode-says}
 use Rattle.tracking.specs.Calls.{Sending, Hearing, sendReply, encoderAfter, hearReply, decoderAfter}
 use Rattle.tracking.specs.History.{afterAll}
 use Rattle.tracking.proofs.Runs.{run-in-range, heard-in-range}
@@ -60,7 +61,7 @@ module _ (t : State) (d : Hearing) where
       let size = read-length (h .width) (h .groups) (body (d .frame)) in
       by-pick InRange (eqb (hearReply t d) 0) decoded t
       (λ done.
-      let k = decode-says t (d .law) h (length (d .frame)) (length (d .buffer)) (eqb-true (hearReply t d) 0 done) .1 in
+      let k = decode-says (isEnd (d .end)) t h (length (d .frame)) (length (d .buffer)) (eqb-true (hearReply t d) 0 done) .1 in
       record {
         memory = heard-in-range (rw (k .core) at (k .sound .header .pair)) (t .memory) (i .memory) (received (d .frame)) (λ j there. read-short (h .width) (h .groups) (body (d .frame)) j (rw size at there));
         cores = i .cores;

@@ -5,6 +5,7 @@ use mathlib.Core.List.{List, [], _∷_}
 use mathlib.Core.Path.{_≡_, refl, _∙_}
 use native.Mathlib.Omega.{arith}
 use borrow.Author.Tests.{eq-eqb}
+use Rattle.words.specs.Every.{every}
 use Rattle.words.proofs.Within.{within-says}
 use Rattle.lists.specs.Run.{total}
 use Rattle.state.specs.declared.State.{State}
@@ -19,21 +20,21 @@ use Rattle.tracking.proofs.Fit.{sends, transfer-fits}
 use Rattle.tracking.proofs.Kept.{sender-core, sender-in-range}
 use Rattle.tracking.proofs.Histories.{written-bears, arrived-bears}
 use Rattle.tracking.proofs.Losses.{after-a-loss}
-use Rattle.tracking.proofs.Witness.{transfer, fit}
+use Rattle.tracking.proofs.Witness.{mu-law, A-law, transfer, fit}
 
 -- a fit call in edition 2 writes a frame
 writes-fit : (s : State) (c : Sending) → InRange s → FitSending (s .core) c → isNumbered (c .edition) ≡ true → writes s c ≡ true
 writes-fit s c i k bears = rw (bears, eq-eqb _ _ (sends s c i k))
 
 abbrev speech : Transfer
-speech = transfer numbered 3 (0x9A ∷ 0x1A ∷ 0xB3 ∷ 0x40 ∷ 0xC7 ∷ 0x2E ∷ 0x00 ∷ 0xFF ∷ [])
+speech = transfer mu-law A-law numbered 3 (0x9A ∷ 0x1A ∷ 0xB3 ∷ 0x40 ∷ 0xC7 ∷ 0x2E ∷ 0x00 ∷ 0xFF ∷ [])
 
 abbrev call : Sending
 call = speech .sent
 
 fits : Fit 2 speech
-unfolding headerLength
-fits = fit _ _ (omega arith) refl _ refl
+unfolding headerLength every
+fits = fit _ _ _ _ (omega arith) refl _ refl refl refl refl
 
 -- a state of core 2 in range, from which the call is made
 record At2 (s : State) : Type 0 where
@@ -90,7 +91,7 @@ third-behind =
       after = omega arith;
       near = omega arith;
       brings = record { there = omega arith; stations = speech .stations; passed = u .drops; is = refl };
-      law = omega arith;
+      known = refl;
     })
 
 -- and is refused

@@ -6,7 +6,7 @@ use mathlib.Core.Path.{_≡_, sym, ap, _∙_}
 use Prim.Native.Nat.{ℕ, _%_, _≤_}
 use native.Mathlib.Omega.{arith}
 use lib.ListN.{length}
-use borrow.Author.Tests.{eq-eqb, ne-eqb, le-leb}
+use borrow.Author.Tests.{eq-eqb, ne-eqb}
 use Rattle.words.specs.First.{first}
 use Rattle.words.specs.Within.{Within}
 use Rattle.words.proofs.Pick.{cases}
@@ -14,21 +14,22 @@ use Rattle.state.specs.declared.State.{State}
 use Rattle.state.specs.Reset.{resetOf}
 use Rattle.state.specs.InRange.{InRange}
 use Rattle.state.proofs.Ranges.{range-of, reset-in-range, reset-core, reset-number}
+use Rattle.sample.specs.End.{isEnd}
 use Rattle.frame.specs.Header.{headerOf, sampleCount, isDue}
 use Rattle.frame.specs.Sound.{Sound}
 use Rattle.frame.proofs.Sounds.{sound-none}
-use Rattle.decode.specs.Decode.{decodeReply, decodeOctets, decodeDisagreements, decodeState, decodeOut}
-use Rattle.decode.proofs.Fitness.{decode-of, decode-behind}
+use Rattle.codewords.specs.Decode.{decodeReply, decodeCount, decodeDisagreements, decodeState, decodeOut}
+use Rattle.codewords.proofs.Fitness.{decode-of, decode-behind}
 use Rattle.tracking.specs.Calls.{Sending, Hearing, hearReply, decoderAfter}
 use Rattle.tracking.specs.History.{numberedFrames, isNumberedFrame, accepted, afterAll, Brings, AllBehind, Refused, AllRefused}
 use Rattle.tracking.proofs.Kept.{hearer-core, hearer-in-range, afterwards-in-range, afterwards-core}
 use Rattle.tracking.proofs.Numbers.{hearer-number, hearer-counts}
 use Rattle.tracking.proofs.Histories.{Bearing, bearing-same, brought-bears}
 
--- a sound frame of the state's core, at a state in range, with a law that there is
+-- a sound frame of the state's core, at a state in range, for an end that there is
 pub record Hearable (t : State) (d : Hearing) : Type 0 where
   pub range : InRange t
-  pub law : d .law ≤ 1
+  pub known : isEnd (d .end) ≡ true
   pub sound : Sound (headerOf (d .frame)) (length (d .frame))
   pub core : headerOf (d .frame) .core ≡ t .core
 
@@ -37,14 +38,14 @@ module _ (t : State) (d : Hearing) (k : Hearable t d) where
   refused-number : isDue (headerOf (d .frame)) (t .number) ≡ false → hearReply t d ≡ 10
   unfolding decodeReply first
   refused-number late =
-      decode-behind t (d .law) (headerOf (d .frame)) (length (d .frame)) (length (d .buffer)) (range-of t (k .range)) (le-leb (d .law) 1 (k .law)) (sound-none (headerOf (d .frame)) (length (d .frame)) (k .sound))
+      decode-behind (isEnd (d .end)) t (headerOf (d .frame)) (length (d .frame)) (length (d .buffer)) (range-of t (k .range)) (k .known) (sound-none (headerOf (d .frame)) (length (d .frame)) (k .sound))
       ∙ rw (eq-eqb _ _ (k .core), late)
 
   -- where it is due, or there is none, it is decoded
   pub due-decoded : isDue (headerOf (d .frame)) (t .number) ≡ true → sampleCount (headerOf (d .frame)) ≤ length (d .buffer) → hearReply t d ≡ 0
   unfolding decodeReply
   due-decoded due room =
-      decode-of t (d .law) (headerOf (d .frame)) (length (d .frame)) (length (d .buffer)) (k .law)
+      decode-of (isEnd (d .end)) t (headerOf (d .frame)) (length (d .frame)) (length (d .buffer)) (k .known)
       (record { range = k .range; sound = k .sound; core = k .core; due = due; space = room })
 
   pub unnumbered-decoded : isNumberedFrame d ≡ false → sampleCount (headerOf (d .frame)) ≤ length (d .buffer) → hearReply t d ≡ 0
@@ -52,12 +53,12 @@ module _ (t : State) (d : Hearing) (k : Hearable t d) where
 
 -- a refusal with 10 leaves all as it was
 refused : (t : State) (d : Hearing) → hearReply t d ≡ 10 → Refused t d
-unfolding decodeOctets decodeDisagreements decodeState decodeOut
-refused t d number = record { number = number; octets = rw number; disagreements = rw number; state = rw number; out = rw number }
+unfolding decodeCount decodeDisagreements decodeState decodeOut
+refused t d number = record { number = number; count = rw number; disagreements = rw number; state = rw number; out = rw number }
 
-module _ {core n : ℕ} (t : State) (d : Hearing) (i : InRange t) (law : d .law ≤ 1) (b : Bearing core n (d .frame)) (e : core ≡ t .core) where
+module _ {core n : ℕ} (t : State) (d : Hearing) (i : InRange t) (known : isEnd (d .end) ≡ true) (b : Bearing core n (d .frame)) (e : core ≡ t .core) where
   hears : Hearable t d
-  hears = record { range = i; law = law; sound = b .sound; core = b .core-is ∙ e }
+  hears = record { range = i; known = known; sound = b .sound; core = b .core-is ∙ e }
 
   pub other-number-refused : (n ≡ t .number → ⊥) → Refused t d
   other-number-refused other =
@@ -80,17 +81,17 @@ module _ (core : ℕ) (within : Within 2 4 core) (cs : List Sending) where
       bearing-same (reset-core core) (omega arith) (brought-bears start (omega arith) cs {place = place} brings)
 
   -- a frame of this stream at another place than the due one, modulo 256, is refused with 10
-  pub other-place-refused : (t : State) → InRange t → t .core ≡ core → (place : ℕ) (d : Hearing) → d .law ≤ 1 → Brings frames place d
+  pub other-place-refused : (t : State) → InRange t → t .core ≡ core → (place : ℕ) (d : Hearing) → isEnd (d .end) ≡ true → Brings frames place d
       → (place % 256 ≡ t .number → ⊥) → Refused t d
-  other-place-refused t i e place d law brings other = other-number-refused t d i law (bears brings) (sym e) other
+  other-place-refused t i e place d known brings other = other-number-refused t d i known (bears brings) (sym e) other
 
   -- and one at the due place, or any number of times 256 places off, is taken for the due one
-  pub taken-for-due : (ds : List Hearing) (place : ℕ) (d : Hearing) → d .law ≤ 1 → Brings frames place d → sampleCount (headerOf (d .frame)) ≤ length (d .buffer)
+  pub taken-for-due : (ds : List Hearing) (place : ℕ) (d : Hearing) → isEnd (d .end) ≡ true → Brings frames place d → sampleCount (headerOf (d .frame)) ≤ length (d .buffer)
       → place % 256 ≡ accepted start ds % 256 → hearReply (afterAll start ds) d ≡ 0
-  taken-for-due ds place d law brings room same =
+  taken-for-due ds place d known brings room same =
       let from = reset-number core in
       let counted = hearer-counts start (omega arith) ds in
-      due-number-taken (afterAll start ds) d (afterwards-in-range start (reset-in-range core within) ds) law (bears brings) (sym (afterwards-core start ds ∙ reset-core core)) (omega arith) room
+      due-number-taken (afterAll start ds) d (afterwards-in-range start (reset-in-range core within) ds) known (bears brings) (sym (afterwards-core start ds ∙ reset-core core)) (omega arith) room
 
   module _ (lost : ℕ) where
     -- from any state whose number is the lost frame's
@@ -102,7 +103,7 @@ module _ (core : ℕ) (within : Within 2 4 core) (cs : List Sending) where
         let k = b numbered in
         let after = k .after in
         let near = k .near in
-        other-place-refused t i e (k .place) d (k .law) (k .brings) (λ same. omega arith) in
+        other-place-refused t i e (k .place) d (k .known) (k .brings) (λ same. omega arith) in
         let stays : decoderAfter t d .number ≡ t .number =
         cases (isNumberedFrame d) (λ numbered. ap (λ (u : State). u .number) (late numbered .state)) (λ plain. hearer-number t d ∙ rw plain) in
         (late, losing (decoderAfter t d) (hearer-in-range t d i) (hearer-core t d ∙ e) (stays ∙ due) ds bs)

@@ -16,7 +16,7 @@ use Rattle.frame.specs.Planes.{frameOf}
 use Rattle.frame.specs.Read.{thinned}
 use Rattle.frame.proofs.Headers.{Fields, borne-again}
 use Rattle.frame.proofs.Thinning.{frame-thinned}
-use Rattle.encode.specs.Levels.{dueHeader, encodedFrame, encodedMemory, encodedCodewords, encodedState}
+use Rattle.levels.specs.Levels.{dueHeader, encodedFrame, encodedMemory, encodedCodewords, encodedState}
 use Rattle.tracking.proofs.Runs.{codewords-thinned, memories-same}
 
 module _ (s : State) (e v w : ℕ) (xs : List ℕ) (pv : Pair v (s .core)) (pw : Pair w (s .core)) (narrow : v ≤ w) where

@@ -10,10 +10,10 @@ use Rattle.words.proofs.Pick.{pick-lt}
 use Rattle.lists.specs.Run.{last, total}
 use Rattle.state.specs.declared.State.{State}
 use Rattle.frame.specs.Header.{isNumbered, numberAfter}
-use Rattle.encode.specs.Levels.{encodedState}
-use Rattle.encode.specs.Encode.{encodeState}
-use Rattle.decode.specs.Codewords.{decodedState}
-use Rattle.decode.specs.Decode.{decodeState}
+use Rattle.levels.specs.Levels.{encodedState}
+use Rattle.levels.specs.Encode.{encodeState}
+use Rattle.codewords.specs.Codewords.{decodedState}
+use Rattle.codewords.specs.Decode.{decodeState}
 use Rattle.tracking.specs.Calls.{Sending, Hearing, sendReply, encoderAfter, hearReply, decoderAfter}
 use Rattle.tracking.specs.History.{writes, isNumberedFrame, accepts, accepted, afterAll}
 use Rattle.tracking.proofs.Kept.{sent, decoded}

@@ -1,5 +1,5 @@
 -- What an observer at the far end gets: the state after a frame depends on the frame's core planes alone. Two frames that agree on them move
--- a decoder to the same state, whatever their enhancement planes say and whichever law it speaks.
+-- a decoder to the same state, whatever their enhancement planes say and whichever end hears them.
 use mathlib.Core.List.{List, [], _∷_, map}
 use mathlib.Core.Path.{_≡_, refl, sym, ap, _∙_}
 use Prim.Native.Nat.{ℕ, _≤_, _<_}
@@ -11,6 +11,7 @@ use Rattle.state.specs.declared.memory.Memory.{Memory}
 use Rattle.state.specs.declared.State.{State}
 use Rattle.state.specs.Moved.{movedOn}
 use Rattle.sample.specs.Decode.{decoderNext}
+use Rattle.sample.specs.End.{isEnd}
 use Rattle.sample.proofs.Cores.{core-of-thinned}
 use Rattle.sample.proofs.Tracks.{decode-by-core}
 use Rattle.frame.specs.Header.{headerOf, numberAfter}
@@ -18,9 +19,9 @@ use Rattle.frame.specs.Read.{received, thinned}
 use Rattle.frame.specs.Sound.{Sound}
 use Rattle.frame.proofs.Headers.{thinned-header}
 use Rattle.frame.proofs.Thinning.{received-thinned}
-use Rattle.decode.specs.Codewords.{decodedMemory, decodedState}
-use Rattle.decode.specs.Decode.{decodeReply, decodeState}
-use Rattle.decode.proofs.Fitness.{decode-says}
+use Rattle.codewords.specs.Codewords.{decodedMemory, decodedState}
+use Rattle.codewords.specs.Decode.{decodeReply, decodeState}
+use Rattle.codewords.proofs.Fitness.{decode-says}
 use Rattle.tracking.specs.Stream.{TwoFrames, one, other, Agree, AllAgree, EqualStates}
 use Rattle.tracking.proofs.Runs.{thin}
 
@@ -57,8 +58,8 @@ same-core-planes s f f′ sound sound′ core core′ same =
 observers-step : (s : State) (x : TwoFrames) → Agree s s x → one s s x ≡ other s s x
 unfolding decodeState decodeReply
 observers-step s x a =
-    let p = decode-says s (x .heard .law) (headerOf (x .heard .frame)) (length (x .heard .frame)) (length (x .heard .buffer)) (a .decodes) .1 in
-    let q = decode-says s (x .heard′ .law) (headerOf (x .heard′ .frame)) (length (x .heard′ .frame)) (length (x .heard′ .buffer)) (a .decodes′) .1 in
+    let p = decode-says (isEnd (x .heard .end)) s (headerOf (x .heard .frame)) (length (x .heard .frame)) (length (x .heard .buffer)) (a .decodes) .1 in
+    let q = decode-says (isEnd (x .heard′ .end)) s (headerOf (x .heard′ .frame)) (length (x .heard′ .frame)) (length (x .heard′ .buffer)) (a .decodes′) .1 in
     rw (eq-eqb _ _ (a .decodes), eq-eqb _ _ (a .decodes′))
     (same-core-planes s (x .heard .frame) (x .heard′ .frame) (p .sound) (q .sound) (p .core) (q .core) (a .core-planes))
 

@@ -1,21 +1,23 @@
--- The calls of which streams and histories are made: what `encode` left in its buffer is lent to `drop_planes`, as often as there are base
--- stations that thin it, and what the last of them left is lent to `decode`. All that is said of them is said of the calls' own answers.
+-- The calls of which streams and histories are made: what an encoder left in its buffer is lent to `drop_planes`, as often as there are base
+-- stations that thin it, and what the last of them left is lent to a decoder. Either end speaks mu-law, A-law or linear samples. All that is said of the
+-- calls is said of their own answers.
 -- A frame is the octets that the call reports, from the buffer's first on.
 use mathlib.Core.List.{List, [], _∷_}
 use mathlib.Core.Path.{_≡_}
 use Prim.Native.Nat.{ℕ}
 use lib.ListN.{take}
 use Rattle.state.specs.declared.State.{State}
-use Rattle.encode.specs.Encode.{encodeReply, encodeOctets, encodeState, encodeOut}
+use Rattle.sample.specs.End.{End, Sample}
+use Rattle.levels.specs.Encode.{encodeReply, encodeOctets, encodeState, encodeOut}
 use Rattle.drop_planes.specs.Drop.{dropReply, dropOctets, dropOut}
-use Rattle.decode.specs.Decode.{decodeReply, decodeState}
+use Rattle.codewords.specs.Decode.{decodeReply, decodeState}
 
--- a call of encode, of drop_planes and of decode, but for the state and for the frame that is thinned
+-- a call of an encoder, of drop_planes and of a decoder, but for the state and for the frame that is thinned
 pub record Sending : Type 0 where
-  pub law : ℕ
+  pub end : End
   pub edition : ℕ
   pub width : ℕ
-  pub samples : List ℕ
+  pub samples : List (Sample end)
   pub buffer : List ℕ
 
 pub record Station : Type 0 where
@@ -23,27 +25,27 @@ pub record Station : Type 0 where
   pub buffer : List ℕ
 
 pub record Hearing : Type 0 where
-  pub law : ℕ
+  pub end : End
   pub frame : List ℕ
-  pub buffer : List ℕ
+  pub buffer : List (Sample end)
 
 module _ (s : State) (c : Sending) where
   abbrev pub sendReply : ℕ
-  sendReply = encodeReply s (c .law) (c .edition) (c .width) (c .samples) (c .buffer)
+  sendReply = encodeReply (c .end) s (c .edition) (c .width) (c .samples) (c .buffer)
 
   -- the frame that the encoder wrote, and its next state
   unfoldable pub written : List ℕ
-  written = take (encodeOctets s (c .law) (c .edition) (c .width) (c .samples) (c .buffer)) (encodeOut s (c .law) (c .edition) (c .width) (c .samples) (c .buffer))
+  written = take (encodeOctets (c .end) s (c .edition) (c .width) (c .samples) (c .buffer)) (encodeOut (c .end) s (c .edition) (c .width) (c .samples) (c .buffer))
 
   unfoldable pub encoderAfter : State
-  encoderAfter = encodeState s (c .law) (c .edition) (c .width) (c .samples) (c .buffer)
+  encoderAfter = encodeState (c .end) s (c .edition) (c .width) (c .samples) (c .buffer)
 
 module _ (t : State) (d : Hearing) where
   abbrev pub hearReply : ℕ
-  hearReply = decodeReply t (d .law) (d .frame) (d .buffer)
+  hearReply = decodeReply (d .end) t (d .frame) (d .buffer)
 
   abbrev pub decoderAfter : State
-  decoderAfter = decodeState t (d .law) (d .frame) (d .buffer)
+  decoderAfter = decodeState (d .end) t (d .frame) (d .buffer)
 
 -- the frame that one base station passes on, and the frame behind all of them
 unfoldable pub passedOn : List ℕ → Station → List ℕ

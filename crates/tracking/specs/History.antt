@@ -10,7 +10,8 @@ use Rattle.words.specs.Notation.{pick}
 use Rattle.lists.specs.Run.{last, total}
 use Rattle.state.specs.declared.State.{State}
 use Rattle.frame.specs.Header.{headerOf, isNumbered}
-use Rattle.decode.specs.Decode.{decodeOctets, decodeDisagreements, decodeOut}
+use Rattle.sample.specs.End.{isEnd}
+use Rattle.codewords.specs.Decode.{decodeCount, decodeDisagreements, decodeOut}
 use Rattle.tracking.specs.Calls.{Sending, Station, Hearing, sendReply, written, encoderAfter, hearReply, decoderAfter, arrived, Passed}
 
 -- whether a call writes an edition 2 frame, and the edition 2 frames that an encoder has written, each at its place from 0
@@ -47,7 +48,7 @@ pub record Behind (frames : List (List ℕ)) (lost : ℕ) (d : Hearing) : Type 0
   pub after : lost < place
   pub near : place ≤ lost + 255
   pub brings : Brings frames place d
-  pub law : d .law ≤ 1
+  pub known : isEnd (d .end) ≡ true
 
 -- all that is given of edition 2 are such frames; of edition 1, or of none, it may be anything
 abbrev pub AllBehind : List (List ℕ) → ℕ → List Hearing → Type 0
@@ -57,10 +58,10 @@ AllBehind frames lost (d ∷ ds) = (isNumberedFrame d ≡ true → Behind frames
 -- refused with 10, with state and buffer left alone
 pub record Refused (t : State) (d : Hearing) : Type 0 where
   pub number : hearReply t d ≡ 10
-  pub octets : decodeOctets t (d .law) (d .frame) (d .buffer) ≡ 0
-  pub disagreements : decodeDisagreements t (d .law) (d .frame) (d .buffer) ≡ 0
+  pub count : decodeCount (d .end) t (d .frame) (d .buffer) ≡ 0
+  pub disagreements : decodeDisagreements (d .end) t (d .frame) (d .buffer) ≡ 0
   pub state : decoderAfter t d ≡ t
-  pub out : decodeOut t (d .law) (d .frame) (d .buffer) ≡ d .buffer
+  pub out : decodeOut (d .end) t (d .frame) (d .buffer) ≡ d .buffer
 
 abbrev pub AllRefused : State → List Hearing → Type 0
 AllRefused t [] = Unit

@@ -1,4 +1,5 @@
 -- A stream of frames from an encoder over base stations to a decoder, each frame whole, once and in order.
+use mathlib.Core.Bool.{true}
 use mathlib.Core.List.{List, [], _∷_}
 use mathlib.Core.Path.{_≡_}
 use Prim.Native.Nat.{ℕ, _≤_}
@@ -9,23 +10,25 @@ use Rattle.frame.specs.declared.header.Header.{Header}
 use Rattle.frame.specs.Header.{headerOf, dueLength, sampleCount}
 use Rattle.frame.specs.Read.{narrowed, thinned}
 use Rattle.frame.specs.Sound.{SoundHeader}
-use Rattle.encode.specs.Levels.{encodedHeader}
+use Rattle.sample.specs.End.{End, Sample, isEnd}
+use Rattle.levels.specs.Levels.{encodedHeader}
+use Rattle.levels.specs.Encode.{areTaken}
 use Rattle.tracking.specs.Calls.{Sending, Station, Hearing, sendReply, written, encoderAfter, hearReply, decoderAfter, arrived, Passed}
 
--- one frame's transfer: the encoder's call; the base stations; the decoder's law and buffer
+-- one frame's transfer: the encoder's call; the base stations; the decoder's end and buffer
 pub record Transfer : Type 0 where
   pub sent : Sending
   pub stations : List Station
-  pub law : ℕ
-  pub buffer : List ℕ
+  pub end : End
+  pub buffer : List (Sample end)
 
 -- the same call, but that the encoder is asked for width v and is lent another buffer
 abbrev pub atWidth : ℕ → List ℕ → Sending → Sending
-atWidth v buffer c = record { law = c .law; edition = c .edition; width = v; samples = c .samples; buffer = buffer }
+atWidth v buffer c = record { end = c .end; edition = c .edition; width = v; samples = c .samples; buffer = buffer }
 
 -- the decoder's call, where the encoder's state is s
 abbrev pub heard : State → Transfer → Hearing
-heard s x = record { law = x .law; frame = arrived (written s (x .sent)) (x .stations); buffer = x .buffer }
+heard s x = record { end = x .end; frame = arrived (written s (x .sent)) (x .stations); buffer = x .buffer }
 
 -- no call of the transfer is refused, where the decoder's state is t
 pub record Unrefused (s t : State) (x : Transfer) : Type 0 where
@@ -42,7 +45,7 @@ abbrev pub EqualThroughout : State → State → List Transfer → Type 0
 EqualThroughout s t [] = Unit
 EqualThroughout s t (x ∷ xs) = (decoderAfter t (heard s x) ≡ encoderAfter s (x .sent)) × EqualThroughout (encoderAfter s (x .sent)) (decoderAfter t (heard s x)) xs
 
--- fit inputs, whatever the state: laws that there are, a sound header (one of the two editions, one of the nine pairs, 1 to 40 groups) for whole
+-- fit inputs, whatever the state: ends that there are, samples that the encoder's end takes, a sound header (one of the two editions, one of the nine pairs, 1 to 40 groups) for whole
 -- groups of samples, each station's width from the core to what reached it, and buffers that are long enough
 abbrev pub Narrowing : Header → List Station → Type 0
 Narrowing h [] = Unit
@@ -53,7 +56,8 @@ abbrev pub sentHeader : ℕ → Sending → Header
 sentHeader core c = encodedHeader core 0 (c .edition) (c .width) (length (c .samples))
 
 pub record FitSending (core : ℕ) (c : Sending) : Type 0 where
-  pub law : c .law ≤ 1
+  pub known : isEnd (c .end) ≡ true
+  pub taken : areTaken (c .end) (c .samples) ≡ true
   pub header : SoundHeader (sentHeader core c)
   pub whole : length (c .samples) ≡ sampleCount (sentHeader core c)
   pub room : dueLength (sentHeader core c) ≤ length (c .buffer)
@@ -61,7 +65,7 @@ pub record FitSending (core : ℕ) (c : Sending) : Type 0 where
 pub record Fit (core : ℕ) (x : Transfer) : Type 0 where
   pub sending : FitSending core (x .sent)
   pub stations : Narrowing (sentHeader core (x .sent)) (x .stations)
-  pub law : x .law ≤ 1
+  pub known : isEnd (x .end) ≡ true
   pub room : length (x .sent .samples) ≤ length (x .buffer)
 
 abbrev pub AllFit : ℕ → List Transfer → Type 0

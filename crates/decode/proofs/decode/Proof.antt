@@ -6,80 +6,64 @@ use native.Mathlib.Omega.{arith}
 use lib.ListN.{length, length-drop}
 use denote.Ref.{now}
 use Rattle.lists.proofs.Rest.{rest-lent}
+use Rattle.sample.specs.End.{pcm}
 use Rattle.frame.specs.Header.{headerLength, headerOf}
 use Rattle.frame.specs.Read.{body, received}
-use Rattle.frame.proofs.Codewords.{read-length}
 use Rattle.replies.specs.Reply.{numberOf}
-use Rattle.replies.proofs.Answers.{refusal, success, is-refusal, is-success}
-use Rattle.decode.specs.Decode.{decodeReply, decodeOctets, decodeDisagreements, decodeState, decodeOut}
-use Rattle.decode.specs.Inner.{Decodable}
-use Rattle.decode.proofs.Fitness.{decode-says}
+use Rattle.replies.proofs.Answers.{is-refusal, is-success}
+use Rattle.codewords.specs.Decode.{decodeReply}
+use Rattle.codewords.specs.Inner.{Decodable}
+use Rattle.codewords.proofs.Fitness.{decode-says}
+use Rattle.codewords.proofs.Answers.{decodes-refused, decodes-done}
 use Rattle.decode.proofs.decode.Statement.{statement}
 use Rattle.decode.proofs.decode.Tie as tie
 
-number : (c : tie.After-decode-reply) → numberOf (c .decode-reply .result) ≡ decodeReply (c .before .before .before .before .args .s) (c .before .before .before .before .args .law) (now (c .before .before .before .before .args .frame)) (now (c .before .before .before .before .args .out))
+number : (c : tie.After-decode-reply) → numberOf (c .decode-reply .result) ≡ decodeReply (pcm (c .before .before .before .before .before .args .law)) (c .before .before .before .before .before .args .s) (now (c .before .before .before .before .before .args .frame)) (now (c .before .before .before .before .before .args .out))
 unfolding decodeReply
-number c = c .decode-reply .ensures ∙ rw (c .before .read-header .ensures)
+number c = c .decode-reply .ensures ∙ rw (c .before .is-law .ensures, c .before .before .read-header .ensures)
 
-unfit : (c : tie.Then1) → decodeReply (c .before .before .before .before .before .before .args .s) (c .before .before .before .before .before .before .args .law) (now (c .before .before .before .before .before .before .args .frame)) (now (c .before .before .before .before .before .before .args .out)) ≡ 0 → ⊥
-unfit c = is-refusal (c .before .is-done .ensures) (number (c .before .before)) (c .if1 .taken)
-
-fit : (c : tie.Else1) → decodeReply (c .before .before .before .before .before .before .args .s) (c .before .before .before .before .before .before .args .law) (now (c .before .before .before .before .before .before .args .frame)) (now (c .before .before .before .before .before .before .args .out)) ≡ 0
+fit : (c : tie.Else1) → decodeReply (pcm (c .before .before .before .before .before .before .before .args .law)) (c .before .before .before .before .before .before .before .args .s) (now (c .before .before .before .before .before .before .before .args .frame)) (now (c .before .before .before .before .before .before .before .args .out)) ≡ 0
 fit c = is-success (c .before .is-done .ensures) (number (c .before .before)) (c .if1 .left)
 
 -- behind the test the inputs are fit
-able : (c : tie.Else1) → Decodable (c .before .before .before .before .before .before .args .s) (headerOf (now (c .before .before .before .before .before .before .args .frame))) (length (now (c .before .before .before .before .before .before .args .frame))) (length (now (c .before .before .before .before .before .before .args .out)))
+able : (c : tie.Else1) → Decodable (c .before .before .before .before .before .before .before .args .s) (headerOf (now (c .before .before .before .before .before .before .before .args .frame))) (length (now (c .before .before .before .before .before .before .before .args .frame))) (length (now (c .before .before .before .before .before .before .before .args .out)))
 unfolding decodeReply
-able c = decode-says _ (c .before .before .before .before .before .before .args .law) _ _ _ (fit c) .1
+able c = decode-says _ _ _ _ _ (fit c) .1
 
 returns : tie.Need-returns
-unfolding decodeOctets decodeDisagreements decodeState decodeOut
 returns c =
-    let refused = unfit c in
-    record {
-      number = number (c .before .before);
-      octets = refusal _ _ _ refused;
-      disagreements = refusal _ _ _ refused;
-      state = refusal _ _ _ refused;
-      out = refusal _ _ _ refused;
-    }
+    decodes-refused _ _ _ _ (number (c .before .before)) (is-refusal (c .before .is-done .ensures) (number (c .before .before)) (c .if1 .taken))
 
 -- the planes begin behind the header's octets, of which there are enough
-start : (c : tie.After-header-length) → c .header-length .result ≡ headerLength (headerOf (now (c .before .before .before .before .before .before .before .args .frame)) .edition)
-start c = c .header-length .ensures ∙ rw (c .before .before .before .before .read-header .ensures)
+start : (c : tie.After-header-length) → c .header-length .result ≡ headerLength (headerOf (now (c .before .before .before .before .before .before .before .before .args .frame)) .edition)
+start c = c .header-length .ensures ∙ rw (c .before .before .before .before .before .read-header .ensures)
 
-long : (c : tie.After-header-length) → c .header-length .result ≤ length (now (c .before .before .before .before .before .before .before .args .frame))
+long : (c : tie.After-header-length) → c .header-length .result ≤ length (now (c .before .before .before .before .before .before .before .before .args .frame))
 long c = rw (start c) (omega (arith, able (c .before) .sound .whole))
 
 decode-into-requires : tie.Need-decode-into-requires
 decode-into-requires c κs =
     let at = c .before .before .before in
     let k = able at in
-    let f = now (at .before .before .before .before .before .before .args .frame) in
-    rw (at .before .before .before .read-header .ensures, rest-lent f (c .before .before .header-length .result), start (c .before .before))
+    let f = now (at .before .before .before .before .before .before .before .args .frame) in
+    rw (at .before .before .before .before .read-header .ensures, rest-lent f (c .before .before .header-length .result), start (c .before .before))
     (k .range, k .sound .header, k .core, simp length-drop (omega (arith, k .sound .whole)), k .space)
 
 returns-2 : tie.Need-returns-2
-unfolding body received decodeOctets decodeDisagreements decodeState decodeOut
+unfolding body received
 returns-2 c =
     let called = c .before .before .before .before .before .before .before in
     let at = called .before in
-    let f = now (at .before .before .before .before .before .before .args .frame) in
-    let h = at .before .before .before .read-header .ensures in
-    let n = fit at in
+    let f = now (at .before .before .before .before .before .before .before .args .frame) in
+    let h = at .before .before .before .before .read-header .ensures in
     let d = rw (h, rest-lent f (called .header-length .result), start called) at (c .before .before .before .before .decode-into .ensures) in
-    record {
-      number = number (at .before .before);
-      octets = c .sample-count .ensures ∙ rw h (success _ _ _ n);
-      disagreements = d .disagreements ∙ success _ _ _ n;
-      state = d .state ∙ success _ _ _ n;
-      out = d .out ∙ rw (read-length (headerOf f .width) (headerOf f .groups) (body f)) (success _ _ _ n);
-    }
+    decodes-done _ _ _ _ (number (at .before .before)) (fit at) (c .sample-count .ensures ∙ rw h) d
 
 pub decode-spec : {M : Type 1} → statement M
 decode-spec =
     tie.close
     (tie.spec
+    (search needs)
     (search needs)
     (search needs)
     (search needs)

@@ -5,8 +5,9 @@ use Prim.Native.Nat.{_≤_}
 use native.Mathlib.Omega.{arith}
 use lib.ListN.{length}
 use denote.Ref.{now}
-use Rattle.encode.proofs.Fitness.{encodable-few}
-use Rattle.encode.proofs.Expanding.{levels-length, levels-short, levels-taken}
+use Rattle.sample.specs.End.{pcm}
+use Rattle.levels.proofs.Fitness.{encodable-few}
+use Rattle.levels.proofs.Samples.{levels-length, levels-short, levels-taken, pcm-taken}
 use Rattle.encode.proofs.encode_into.Statement.{statement}
 use Rattle.encode.proofs.encode_into.Tie as tie
 
@@ -17,14 +18,14 @@ room c = rw (c .before .blank-levels .ensures) (encodable-few (c .before .before
 slice-aggregate-encode-levels : tie.Need-slice-aggregate-encode-levels
 slice-aggregate-encode-levels c =
     let at = c .before .before .before .before .before .before .before in
-    sym (rw (levels-taken _ _ (c .before .before .expand-all .ensures)) (levels-length (at .args .law) (now (at .args .samples))))
+    sym (rw (levels-taken _ _ (c .before .before .expand-all .ensures)) (levels-length (pcm (at .args .law)) (now (at .args .samples))))
 
 encode-levels-requires : tie.Need-encode-levels-requires
 encode-levels-requires c κs =
     let at = c .before .before .before .before .before .before .before .before in
-    let law = at .args .law in
+    let end = pcm (at .args .law) in
     let samples = now (at .args .samples) in
-    rw (levels-taken law samples (c .before .before .before .expand-all .ensures), levels-length law samples) (at .pre, levels-short law samples)
+    rw (levels-taken end samples (c .before .before .before .expand-all .ensures), levels-length end samples) (at .pre, levels-short end samples (pcm-taken (at .args .law) samples))
 
 returns : tie.Need-returns
 returns c =

@@ -6,13 +6,14 @@ use native.Mathlib.Omega.{arith}
 use lib.ListN.{length}
 use denote.Ref.{now}
 use Rattle.lists.proofs.Filled.{Filled, filled-none, filled-more, filled-all}
-use Rattle.encode.specs.Encode.{levelsOf}
-use Rattle.encode.proofs.Expanding.{levels-length, level-at}
+use Rattle.sample.specs.End.{pcm}
+use Rattle.levels.specs.Encode.{levelsOf}
+use Rattle.levels.proofs.Samples.{levels-length, level-at}
 use Rattle.encode.proofs.expand_all.Statement.{statement}
 use Rattle.encode.proofs.expand_all.Tie as tie
 
 abbrev Inv-loop : tie.InvT-loop
-Inv-loop law samples levels₀ i₀ levels i = Filled levels₀ (levelsOf law samples) (length samples) i levels
+Inv-loop law samples levels₀ i₀ levels i = Filled levels₀ (levelsOf (pcm law) samples) (length samples) i levels
 
 abbrev μ-loop : tie.MeasureT-loop
 μ-loop law samples levels₀ i₀ levels i = length samples - i
@@ -20,7 +21,7 @@ abbrev μ-loop : tie.MeasureT-loop
 loop-holds : tie.Need-loop-holds Inv-loop μ-loop
 loop-holds c =
     let at = c .before .before in
-    filled-none _ _ _ (levels-length (at .args .law) (now (at .args .samples))) (at .pre)
+    filled-none _ _ _ (levels-length (pcm (at .args .law)) (now (at .args .samples))) (at .pre)
 
 slice-write-levels : tie.Need-slice-write-levels Inv-loop μ-loop
 slice-write-levels c = omega (arith, c .before .before .before .loop .inv .size, c .before .before .before .loop .inv .room)
@@ -29,7 +30,7 @@ loop-again : tie.Need-loop-again Inv-loop μ-loop
 loop-again c =
     let at = c .before .before .before .before .before .before in
     let more = c .before .before .loop-test .taken in
-    filled-more _ _ _ 0 (c .before .before .before .loop .inv) more (c .expand .ensures ∙ sym (level-at (at .args .law) (now (at .args .samples)) _ more))
+    filled-more _ _ _ 0 (c .before .before .before .loop .inv) more (c .expand .ensures ∙ sym (level-at (pcm (at .args .law)) (now (at .args .samples)) 0 _ more))
 
 same-length : tie.Need-same-length Inv-loop μ-loop
 same-length c = c .before .loop .inv .size

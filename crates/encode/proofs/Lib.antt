@@ -1,4 +1,0 @@
-pub mod Fitness
-pub mod Expanding
-pub mod Encoding
-pub mod Answers

@@ -1,0 +1,5 @@
+pub mod Fitness
+pub mod Samples
+pub mod Encoding
+pub mod Answers
+pub mod Expansion
