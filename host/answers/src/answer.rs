@@ -1,7 +1,7 @@
 //! The second codec's answers: to one call, and to a text of lines as the proved program gives them.
 
-use crate::call::{Call, Decode, Drop, Encode, Read, Write};
-use crate::fields::{write_octets, write_state};
+use crate::call::{Call, Decode, DecodeLinear, Drop, Encode, EncodeLinear, Read, Write};
+use crate::fields::{write_octets, write_samples, write_state};
 use crate::text_fields::{write_reader, write_word, write_writer};
 use second::calls;
 use second::g711::{expand, one_down, one_up};
@@ -42,7 +42,9 @@ pub fn answer_to(call: &Call) -> String {
             format!("{} {} {}", a.number, a.octets, write_state(&a.state))
         }
         Call::Encode(c) => to_encode(c),
+        Call::EncodeLinear(c) => to_encode_linear(c),
         Call::Decode(c) => to_decode(c),
+        Call::DecodeLinear(c) => to_decode_linear(c),
         Call::Drop(c) => to_drop(c),
         // EXPAND's level has 14 bits in two's complement.
         Call::Level(law, octet) => {
@@ -67,6 +69,13 @@ fn to_encode(c: &Encode) -> String {
     format!("{} {} {out} {state}", a.number, a.octets)
 }
 
+fn to_encode_linear(c: &EncodeLinear) -> String {
+    let mut out = c.out.clone();
+    let a = calls::encode_linear(c.state, c.edition, c.width, &c.samples, &mut out);
+    let (out, state) = (write_octets(&out), write_state(&a.state));
+    format!("{} {} {out} {state}", a.number, a.octets)
+}
+
 fn to_decode(c: &Decode) -> String {
     let mut out = c.out.clone();
     let a = calls::decode(c.state, c.law, &c.frame, &mut out);
@@ -74,6 +83,16 @@ fn to_decode(c: &Decode) -> String {
     format!(
         "{} {} {} {out} {state}",
         a.number, a.octets, a.disagreements
+    )
+}
+
+fn to_decode_linear(c: &DecodeLinear) -> String {
+    let mut out = c.out.clone();
+    let a = calls::decode_linear(c.state, &c.frame, &mut out);
+    let (out, state) = (write_samples(&out), write_state(&a.state));
+    format!(
+        "{} {} {} {out} {state}",
+        a.number, a.samples, a.disagreements
     )
 }
 

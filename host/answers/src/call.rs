@@ -7,13 +7,15 @@ use second::g711::Law;
 use second::text::{Reader, Writer};
 use std::fmt;
 
-pub use crate::given::{Decode, Drop, Encode, Read, Write};
+pub use crate::given::{Decode, DecodeLinear, Drop, Encode, EncodeLinear, Read, Write};
 
 #[derive(Clone, Debug, PartialEq, Eq)]
 pub enum Call {
     Reset(u8),
     Encode(Encode),
+    EncodeLinear(EncodeLinear),
     Decode(Decode),
+    DecodeLinear(DecodeLinear),
     Drop(Drop),
     /// No public call: EXPAND of an octet, and its neighbours.
     Level(Law, u8),
@@ -39,7 +41,9 @@ impl Call {
         Ok(match word {
             "reset" => Call::Reset(fields.take(number)?),
             "encode" => Call::Encode(Encode::take(fields)?),
+            "encode_linear" => Call::EncodeLinear(EncodeLinear::take(fields)?),
             "decode" => Call::Decode(Decode::take(fields)?),
+            "decode_linear" => Call::DecodeLinear(DecodeLinear::take(fields)?),
             "drop" => Call::Drop(Drop::take(fields)?),
             "level" => Call::Level(fields.take(law)?, fields.take(number)?),
             "read" => Call::Read(Read::take(fields)?),
@@ -50,12 +54,25 @@ impl Call {
         })
     }
 
+    /// Whether it is one of the codec's six public calls.
+    pub fn is_of_codec(&self) -> bool {
+        match self {
+            Call::Reset(_) | Call::Drop(_) => true,
+            Call::Encode(_) | Call::EncodeLinear(_) => true,
+            Call::Decode(_) | Call::DecodeLinear(_) => true,
+            Call::Level(..) => false,
+            Call::Read(_) | Call::EndText(_) | Call::Write(_) | Call::EndValues(_) => false,
+        }
+    }
+
     /// The call's word.
     pub fn word(&self) -> &'static str {
         match self {
             Call::Reset(_) => "reset",
             Call::Encode(_) => "encode",
+            Call::EncodeLinear(_) => "encode_linear",
             Call::Decode(_) => "decode",
+            Call::DecodeLinear(_) => "decode_linear",
             Call::Drop(_) => "drop",
             Call::Level(..) => "level",
             Call::Read(_) => "read",
@@ -72,7 +89,9 @@ impl fmt::Display for Call {
         match self {
             Call::Reset(core) => write!(f, "{core}"),
             Call::Encode(given) => given.fmt(f),
+            Call::EncodeLinear(given) => given.fmt(f),
             Call::Decode(given) => given.fmt(f),
+            Call::DecodeLinear(given) => given.fmt(f),
             Call::Drop(given) => given.fmt(f),
             Call::Level(law, octet) => write!(f, "{} {octet}", law.number()),
             Call::Read(given) => given.fmt(f),
@@ -95,7 +114,9 @@ mod tests {
         for line in [
             "reset 255".to_string(),
             format!("encode {STATE} 0 2 5 ff00 -"),
+            format!("encode_linear {STATE} 1 255 e0001fff ee"),
             format!("decode {STATE} 255 - 00"),
+            format!("decode_linear {STATE} 5201ff00 0000ffff"),
             "drop 6a01 3 000000".to_string(),
             "level 1 213".to_string(),
             format!("read {READER} 30310a ee"),
@@ -122,6 +143,10 @@ mod tests {
             ("drop 6a01 3", Unread::Field(4)),
             ("drop 6A01 3 -", Unread::Field(2)),
             ("drop 6a0 x -", Unread::Field(2)),
+            ("encode_linear", Unread::Field(2)),
+            ("encode_linear 2", Unread::Field(2)),
+            ("decode_linear 2", Unread::Field(2)),
+            ("encodelinear 2", Unread::NoSuchCall),
             ("level 2 0", Unread::Field(2)),
             ("read 0 30 -", Unread::Field(2)),
             ("end_text", Unread::Field(2)),
@@ -132,6 +157,30 @@ mod tests {
             ("end_values 4,0,0,0", Unread::Field(2)),
         ] {
             assert_eq!(Call::read(line), Err(wrong), "{line}");
+        }
+    }
+
+    #[test]
+    fn a_linear_sample_has_four_digits() {
+        for (fields, wrong) in [
+            ("1 5 00 -", Unread::Field(5)),
+            ("1 5 0000e0 -", Unread::Field(5)),
+            ("1 5 E000 -", Unread::Field(5)),
+            ("1 5 - 0", Unread::Field(6)),
+            ("1 5 -", Unread::Field(6)),
+            ("1 5 - - -", Unread::TooMany(7)),
+        ] {
+            let line = format!("encode_linear {STATE} {fields}");
+            assert_eq!(Call::read(&line), Err(wrong), "{line}");
+        }
+        for (fields, wrong) in [
+            ("0 -", Unread::Field(3)),
+            ("- 00", Unread::Field(4)),
+            ("- 000000", Unread::Field(4)),
+            ("- - -", Unread::TooMany(5)),
+        ] {
+            let line = format!("decode_linear {STATE} {fields}");
+            assert_eq!(Call::read(&line), Err(wrong), "{line}");
         }
     }
 }

@@ -1,5 +1,6 @@
-//! The fields of a line: numbers in decimal digits, octets in pairs of hexadecimal digits with `-` for none, a state as 26
-//! numbers between commas. Each value is written in one way only, so that a line says the same when it is written again.
+//! The fields of a line: numbers in decimal digits, octets in pairs of hexadecimal digits with `-` for none, linear samples in
+//! fours of them, a state as 26 numbers between commas. Each value is written in one way only, so that a line says the same when
+//! it is written again.
 
 use second::state::State;
 
@@ -42,6 +43,22 @@ pub fn write_octets(octets: &[u8]) -> String {
         return "-".to_string();
     }
     octets.iter().map(|octet| format!("{octet:02x}")).collect()
+}
+
+/// Two octets each, the most significant first, in two's complement.
+pub fn samples(text: &str) -> Option<Vec<i16>> {
+    let octets = octets(text)?;
+    let (pairs, rest) = octets.as_chunks();
+    let read = || pairs.iter().map(|&pair| i16::from_be_bytes(pair));
+    rest.is_empty().then(|| read().collect())
+}
+
+pub fn octets_of(samples: &[i16]) -> Vec<u8> {
+    samples.iter().flat_map(|s| s.to_be_bytes()).collect()
+}
+
+pub fn write_samples(samples: &[i16]) -> String {
+    write_octets(&octets_of(samples))
 }
 
 pub fn state(text: &str) -> Option<State> {
@@ -111,6 +128,19 @@ mod tests {
             assert_eq!(octets(text), None, "{text}");
         }
         assert_eq!(write_octets(&[0, 255]), "00ff");
+    }
+
+    #[test]
+    fn samples_have_one_form() {
+        assert_eq!(samples("-"), Some(vec![]));
+        let some = vec![0, -1, 8_191, -8_192, 32_767, -32_768];
+        let text = "0000ffff1fffe0007fff8000";
+        assert_eq!(samples(text), Some(some.clone()));
+        assert_eq!(write_samples(&some), text);
+        assert_eq!(write_samples(&[]), "-");
+        for text in ["", "0", "00", "000", "00000", "000000", "FFFF", "-1", "--"] {
+            assert_eq!(samples(text), None, "{text}");
+        }
     }
 
     #[test]

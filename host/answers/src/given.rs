@@ -1,6 +1,6 @@
 //! What the calls with several fields are given, as it stands in a line.
 
-use crate::fields::{number, octets, state, write_octets, write_state};
+use crate::fields::{number, octets, samples, state, write_octets, write_samples, write_state};
 use crate::line::{Fields, Unread};
 use crate::text_fields::{reader, write_reader, write_writer, writer};
 use second::state::State;
@@ -62,6 +62,61 @@ impl fmt::Display for Decode {
     fn fmt(&self, f: &mut fmt::Formatter) -> fmt::Result {
         let (frame, out) = (write_octets(&self.frame), write_octets(&self.out));
         write!(f, "{} {} {frame} {out}", write_state(&self.state), self.law)
+    }
+}
+
+/// As `Encode`, without a law and with linear samples.
+#[derive(Clone, Debug, PartialEq, Eq)]
+pub struct EncodeLinear {
+    pub state: State,
+    pub edition: u8,
+    pub width: u8,
+    pub samples: Vec<i16>,
+    pub out: Vec<u8>,
+}
+
+impl EncodeLinear {
+    pub fn take(fields: &mut Fields) -> Result<EncodeLinear, Unread> {
+        Ok(EncodeLinear {
+            state: fields.take(state)?,
+            edition: fields.take(number)?,
+            width: fields.take(number)?,
+            samples: fields.take(samples)?,
+            out: fields.take(octets)?,
+        })
+    }
+}
+
+impl fmt::Display for EncodeLinear {
+    fn fmt(&self, f: &mut fmt::Formatter) -> fmt::Result {
+        let (samples, out) = (write_samples(&self.samples), write_octets(&self.out));
+        let state = write_state(&self.state);
+        write!(f, "{state} {} {} {samples} {out}", self.edition, self.width)
+    }
+}
+
+/// As `Decode`, without a law and with a buffer of linear samples.
+#[derive(Clone, Debug, PartialEq, Eq)]
+pub struct DecodeLinear {
+    pub state: State,
+    pub frame: Vec<u8>,
+    pub out: Vec<i16>,
+}
+
+impl DecodeLinear {
+    pub fn take(fields: &mut Fields) -> Result<DecodeLinear, Unread> {
+        Ok(DecodeLinear {
+            state: fields.take(state)?,
+            frame: fields.take(octets)?,
+            out: fields.take(samples)?,
+        })
+    }
+}
+
+impl fmt::Display for DecodeLinear {
+    fn fmt(&self, f: &mut fmt::Formatter) -> fmt::Result {
+        let (frame, out) = (write_octets(&self.frame), write_samples(&self.out));
+        write!(f, "{} {frame} {out}", write_state(&self.state))
     }
 }
 

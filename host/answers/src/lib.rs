@@ -10,6 +10,7 @@ pub mod given;
 pub mod groups;
 pub mod line;
 pub mod page;
+pub mod parts;
 pub mod report;
 pub mod rows;
 pub mod stored;

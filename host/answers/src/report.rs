@@ -11,13 +11,23 @@ use std::fmt;
 /// have to show each of them.
 type Saying = (&'static str, &'static str, &'static [&'static str]);
 
-const SAYINGS: [Saying; 5] = [
+const SAYINGS: [Saying; 7] = [
     ("reset", "reply", &["0", "1"]),
     ("encode", "reply", &["0", "1", "2", "3", "4", "5", "9"]),
+    (
+        "encode_linear",
+        "reply",
+        &["0", "1", "2", "3", "4", "5", "11"],
+    ),
     (
         "decode",
         "reply",
         &["0", "1", "2", "3", "4", "5", "6", "7", "9", "10"],
+    ),
+    (
+        "decode_linear",
+        "reply",
+        &["0", "1", "2", "3", "4", "5", "6", "7", "10"],
     ),
     ("drop", "reply", &["0", "1", "2", "3", "5", "6", "8"]),
     ("end_text", "verdict", &["0", "1", "2", "3", "4"]),
@@ -119,7 +129,9 @@ mod tests {
         let stored = read(ANSWERED).expect("the stored answers");
         for (call, said) in [
             ("encode", "5"),
+            ("encode_linear", "11"),
             ("decode", "10"),
+            ("decode_linear", "10"),
             ("drop", "8"),
             ("end_text", "0"),
             ("end_text", "4"),

@@ -1,46 +1,16 @@
-//! The stored lines, judged: by the rules where they say what is due, and by each other where a law ties them. The answers are read
-//! from the file to which the proved program is held.
+//! The stored lines, judged: by the rules where they say what is due, and by each other where a law ties them.
+
+mod support;
 
 use answers::call::Call;
-use answers::due::{parts, Parts};
-use answers::groups;
 use answers::groups::ends::{meeting, Meeting};
-use answers::page::{Item, Page};
-use answers::stored::{read, ANSWERED};
+use answers::page::Item;
 use second::frame::{read_header, unpack};
 use second::g711::Law;
 use second::sample;
 use second::state::State;
 use std::collections::BTreeSet;
-
-struct Stored {
-    page: Page,
-    lines: Vec<String>,
-}
-
-fn stored() -> Stored {
-    let text = read(ANSWERED).expect("the stored answers");
-    Stored {
-        page: groups::all(),
-        lines: text.lines().map(str::to_string).collect(),
-    }
-}
-
-impl Stored {
-    fn answer(&self, place: usize) -> &str {
-        let line = &self.lines[place];
-        line.split_once(" = ").map_or("", |(_, answer)| answer)
-    }
-
-    /// The group's calls with their answers.
-    fn group(&self, name: &str) -> Vec<(&Call, Parts)> {
-        let call = |place: usize| match &self.page.items[place] {
-            Item::Call(call, _) => Some((call, parts(call, self.answer(place)).unwrap())),
-            _ => None,
-        };
-        self.page.places(name).filter_map(call).collect()
-    }
-}
+use support::stored;
 
 #[test]
 fn what_the_rules_say_is_stored() {
@@ -83,7 +53,7 @@ fn the_greatest_levels() {
 #[test]
 fn both_ends_have_one_state() {
     let stored = stored();
-    for group in ["streams", "jumps", "wraps"] {
+    for group in ["streams", "jumps", "wraps", "linear-streams"] {
         for three in stored.group(group).chunks(3) {
             let [(_, sent), (_, thin), (_, decoded)] = three else {
                 panic!("a frame is three lines");
@@ -167,7 +137,10 @@ fn a_dropped_frame_is_the_narrower_encoder_s() {
         let [(_, whole), (_, narrow), (_, dropped)] = three else {
             panic!("three lines for a pair");
         };
-        assert_eq!((&dropped.out, dropped.octets), (&narrow.out, narrow.octets));
+        assert_eq!(
+            (&dropped.out, dropped.written),
+            (&narrow.out, narrow.written)
+        );
         assert_eq!(whole.state, narrow.state);
     }
 }
@@ -241,30 +214,12 @@ fn a_transition_at_yl_262144() {
     assert_eq!(answer.state.map(|s| s.ap), Some(347));
 }
 
-/// One of the four public calls of the codec.
-fn is_of_codec(call: &Call) -> bool {
-    matches!(
-        call,
-        Call::Reset(_) | Call::Encode(_) | Call::Decode(_) | Call::Drop(_)
-    )
-}
-
 /// What the calls that were done stand for: both laws and both editions with all nine pairs, every thinning, tones and
 /// disagreements.
 #[test]
 fn the_calls_are_many_sided() {
     let stored = stored();
-    let calls = stored
-        .page
-        .items
-        .iter()
-        .enumerate()
-        .filter_map(|(place, item)| match item {
-            Item::Call(call, _) if is_of_codec(call) => {
-                Some((call, parts(call, stored.answer(place)).unwrap()))
-            }
-            _ => None,
-        });
+    let calls = stored.of_codec().into_iter();
     let done: Vec<_> = calls.filter(|(_, answer)| answer.number == 0).collect();
     let (mut encoded, mut decoded, mut thinned) =
         (BTreeSet::new(), BTreeSet::new(), BTreeSet::new());

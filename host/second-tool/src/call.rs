@@ -1,10 +1,11 @@
 //! What the tool is called to do.
 
+use crate::sound::end;
 use filter::line::Line;
-use filter::pair::{law, octet, pair};
+use filter::pair::{octet, pair};
 use filter::words::{number, wrong, Word, Words};
+use second::end::End;
 use second::frame::{is_edition, is_sample_count, PLAIN};
-use second::g711::Law;
 use second::replies::{NARROWEST_CORE, WIDEST};
 
 #[derive(Debug, PartialEq, Eq)]
@@ -21,13 +22,13 @@ pub struct Job {
 pub enum Command {
     Encode(Plan),
     Drop { widths: Widths, most: bool },
-    Decode { law: Law },
+    Decode { to: End },
     Inspect,
 }
 
 #[derive(Clone, Copy, Debug, PartialEq, Eq)]
 pub struct Plan {
-    pub law: Law,
+    pub from: End,
     pub width: u8,
     pub core: u8,
     pub samples: usize,
@@ -78,7 +79,7 @@ fn command(words: &mut Words, states: bool) -> Result<Command, Line> {
     let word = words.due("COMMAND")?;
     match word.as_slice() {
         b"encode" => encode(words).map(Command::Encode),
-        b"decode" => law(words).map(|law| Command::Decode { law }),
+        b"decode" => end(words).map(|to| Command::Decode { to }),
         b"drop" | b"inspect" if states => Err(wrong("no states to write", word)),
         b"drop" => drop(words),
         b"inspect" => Ok(Command::Inspect),
@@ -87,12 +88,12 @@ fn command(words: &mut Words, states: bool) -> Result<Command, Line> {
 }
 
 fn encode(words: &mut Words) -> Result<Plan, Line> {
-    let law = law(words)?;
+    let from = end(words)?;
     let (width, core) = pair(words)?;
     let samples = words.take_digits().map_or(Ok(SAMPLES), samples)?;
     let edition = words.take_digits().map_or(Ok(PLAIN), edition)?;
     Ok(Plan {
-        law,
+        from,
         width,
         core,
         samples,
@@ -157,6 +158,7 @@ fn apart(written: &Option<Word>, others: [&Option<Word>; 2]) -> Result<(), Line>
 mod tests {
     use super::*;
     use filter::program::{parse, Call};
+    use second::g711::Law;
 
     fn read(words: &str) -> Result<Call<Job>, String> {
         let words: Vec<Word> = words.split_whitespace().map(Word::from).collect();
@@ -165,7 +167,7 @@ mod tests {
 
     fn plan(samples: usize, edition: u8) -> Plan {
         Plan {
-            law: Law::A,
+            from: End::Of(Law::A),
             width: 5,
             core: 2,
             samples,
@@ -208,6 +210,25 @@ mod tests {
     }
 
     #[test]
+    fn a_law_may_be_linear() {
+        for (words, command) in [
+            ("decode linear", Command::Decode { to: End::Linear }),
+            (
+                "encode linear 5 2 8",
+                Command::Encode(Plan {
+                    from: End::Linear,
+                    ..plan(8, 1)
+                }),
+            ),
+        ] {
+            let Ok(Call::Job(job)) = read(words) else {
+                panic!("{words} is wrong");
+            };
+            assert_eq!(job.command, command, "{words}");
+        }
+    }
+
+    #[test]
     fn the_two_standard_files_are_no_file_twice() {
         assert!(read("inspect - -").is_ok());
         assert!(read("drop -list w w -").is_ok());
@@ -222,6 +243,9 @@ mod tests {
             ("encode", "a word is missing: LAW"),
             ("encode mu 9", "a word is missing: CORE"),
             ("encode u 5 x", "no law: 'u'"),
+            ("encode Linear 5 x", "no law: 'Linear'"),
+            ("encode linear", "a word is missing: WIDTH"),
+            ("encode linear linear", "not a number: 'linear'"),
             ("encode mu 9 x", "not a number: 'x'"),
             ("encode mu 9 2 7", "no pair of WIDTH and CORE: '9 2'"),
             ("encode mu 5 2 2", "no count of samples: '2'"),

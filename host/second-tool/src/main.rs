@@ -5,6 +5,7 @@ mod call;
 mod input;
 mod list;
 mod run;
+mod sound;
 mod stop;
 mod totals;
 mod work;

@@ -1,7 +1,10 @@
 //! Why a run ends at a frame, and the line that says so.
 
+use crate::sound;
 use filter::line::Line;
 use filter::stop::Stop;
+use second::end::End;
+use second::linear::{GREATEST, LEAST};
 use second::replies;
 
 /// A frame of the stream: its index, and the octet of the stream at which it begins.
@@ -33,6 +36,13 @@ impl Place {
         self.refused_since(replies::OTHER_NUMBER, &what)
     }
 
+    /// Refused since the linear sample at this place of the frame has this value.
+    pub fn off_scale(self, place: usize, value: i16) -> Stop {
+        let sample = self.octet / sound::octets(End::Linear) as u64 + place as u64;
+        let what = format!("sample {sample} is {value}, not from {LEAST} to {GREATEST}");
+        self.refused_since(replies::SAMPLE_OUT_OF_RANGE, &what)
+    }
+
     fn refused_since(self, number: u8, what: &str) -> Stop {
         Stop(self.line(&format!("refused with {number}: {what}")))
     }
@@ -40,6 +50,10 @@ impl Place {
     pub fn cut(self, octets: usize) -> Stop {
         let what = format!("the stream ends inside the frame; octets of it: {octets}");
         Stop(self.line(&what))
+    }
+
+    pub fn cut_sample(self) -> Stop {
+        Stop(self.line("the stream ends inside a sample"))
     }
 }
 
@@ -57,6 +71,7 @@ fn meaning(number: u8) -> &'static str {
         }
         replies::OTHER_CORE => "frame's core differs from the state's",
         replies::BAD_TARGET_WIDTH => "target width below y or above x",
+        replies::SAMPLE_OUT_OF_RANGE => "a sample not from -8192 to 8191",
         _ => "law not 0 (mu) or 1 (A)",
     }
 }

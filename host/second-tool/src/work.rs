@@ -3,21 +3,22 @@
 use crate::call::{Command, Plan, Widths};
 use crate::input::{frame, header};
 use crate::list;
+use crate::sound;
 use crate::stop::Place;
 use crate::totals::Totals;
 use filter::files::Source;
 use filter::line::Line;
 use filter::stop::Stop;
 use second::calls::{self, reset};
-use second::frame::{GROUP, MOST_GROUPS};
-use second::g711::Law;
-use second::replies::{DONE, OTHER_NUMBER};
+use second::end::End;
+use second::frame::GROUP;
+use second::replies::{DONE, OTHER_NUMBER, SAMPLE_OUT_OF_RANGE};
 use second::state::State;
 
 pub enum Work {
     Encode { plan: Plan, state: State },
     Drop { widths: Vec<u8>, most: bool },
-    Decode { law: Law, state: Option<State> },
+    Decode { to: End, state: Option<State> },
     Inspect(Totals),
 }
 
@@ -28,8 +29,8 @@ pub struct Made {
     pub state: Option<State>,
 }
 
-/// As many as a frame can have, and more octets than any frame has.
-const MOST_SAMPLES: usize = GROUP * MOST_GROUPS;
+/// More octets than any frame has.
+const ROOM: usize = 320;
 
 impl Work {
     pub fn new(command: &Command) -> Result<Work, Stop> {
@@ -42,8 +43,8 @@ impl Work {
                 widths: all_of(widths)?,
                 most: *most,
             },
-            Command::Decode { law } => Work::Decode {
-                law: *law,
+            Command::Decode { to } => Work::Decode {
+                to: *to,
                 state: None,
             },
             Command::Inspect => Work::Inspect(Totals::default()),
@@ -53,7 +54,7 @@ impl Work {
     /// The next piece; nothing at the end of the stream.
     pub fn piece(&self, input: &mut Source, place: Place) -> Result<Vec<u8>, Stop> {
         match self {
-            Work::Encode { plan, .. } => input.piece(plan.samples),
+            Work::Encode { plan, .. } => input.piece(plan.samples * sound::octets(plan.from)),
             _ => frame(input, place),
         }
     }
@@ -65,7 +66,7 @@ impl Work {
                 let turn = (place.frame % widths.len() as u64) as usize;
                 drop(widths[turn], *most, piece, place)
             }
-            Work::Decode { law, state } => decode(*law, state, piece, place),
+            Work::Decode { to, state } => decode(*to, state, piece, place),
             Work::Inspect(totals) => inspect(totals, piece, place),
         }
     }
@@ -102,10 +103,14 @@ fn done(number: u8, place: Place, octets: &[u8]) -> Result<Vec<u8>, Stop> {
 }
 
 fn encode(plan: &Plan, state: &mut State, piece: &[u8], place: Place) -> Result<Made, Stop> {
-    let (samples, note) = filled(plan.law, piece, place);
-    let mut out = [0; MOST_SAMPLES];
-    let law = plan.law.number();
-    let answer = calls::encode(*state, law, plan.edition, plan.width, &samples, &mut out);
+    let (speech, note) = filled(plan.from, piece, place)?;
+    let mut out = [0; ROOM];
+    let form = (plan.edition, plan.width);
+    let answer = sound::encode(plan.from, *state, form, &speech, &mut out);
+    if let (SAMPLE_OUT_OF_RANGE, Some((index, value))) = (answer.number, sound::off_scale(&speech))
+    {
+        return Err(place.off_scale(index, value));
+    }
     let octets = done(answer.number, place, &out[..answer.octets])?;
     *state = answer.state;
     Ok(Made {
@@ -115,18 +120,19 @@ fn encode(plan: &Plan, state: &mut State, piece: &[u8], place: Place) -> Result<
     })
 }
 
-/// The samples, with silence behind them up to a whole group, and a note of it.
-fn filled(law: Law, piece: &[u8], place: Place) -> (Vec<u8>, Option<Line>) {
-    let mut samples = piece.to_vec();
-    let whole = samples.len().next_multiple_of(GROUP);
-    let lacking = whole - samples.len();
-    let silence = match law {
-        Law::Mu => 0xFF,
-        Law::A => 0xD5,
-    };
-    samples.resize(whole, silence);
+/// The samples, with silence behind them up to a whole group, and a note of it. A piece that ends inside
+/// a sample is not filled up.
+fn filled(from: End, piece: &[u8], place: Place) -> Result<(Vec<u8>, Option<Line>), Stop> {
+    let each = sound::octets(from);
+    if !piece.len().is_multiple_of(each) {
+        return Err(place.cut_sample());
+    }
+    let mut speech = piece.to_vec();
+    let whole = speech.len().next_multiple_of(GROUP * each);
+    let lacking = (whole - speech.len()) / each;
+    speech.resize(whole, sound::silence(from));
     let what = format!("filled up with silence; samples added: {lacking}");
-    (samples, (lacking > 0).then(|| place.line(&what)))
+    Ok((speech, (lacking > 0).then(|| place.line(&what))))
 }
 
 fn drop(width: u8, most: bool, frame: &[u8], place: Place) -> Result<Made, Stop> {
@@ -136,7 +142,7 @@ fn drop(width: u8, most: bool, frame: &[u8], place: Place) -> Result<Made, Stop>
     } else {
         width
     };
-    let mut out = [0; MOST_SAMPLES];
+    let mut out = [0; ROOM];
     let answer = calls::drop_planes(frame, target, &mut out);
     Ok(Made {
         octets: done(answer.number, place, &out[..answer.octets])?,
@@ -144,16 +150,15 @@ fn drop(width: u8, most: bool, frame: &[u8], place: Place) -> Result<Made, Stop>
     })
 }
 
-fn decode(law: Law, kept: &mut Option<State>, frame: &[u8], place: Place) -> Result<Made, Stop> {
+fn decode(to: End, kept: &mut Option<State>, frame: &[u8], place: Place) -> Result<Made, Stop> {
     let header = header(frame, place)?;
     let state = kept.unwrap_or_else(|| reset(header.core).state);
-    let mut out = [0; MOST_SAMPLES];
-    let answer = calls::decode(state, law.number(), frame, &mut out);
-    if let (OTHER_NUMBER, Some(found)) = (answer.number, header.number) {
+    let (number, speech, next) = sound::decode(to, state, frame);
+    if let (OTHER_NUMBER, Some(found)) = (number, header.number) {
         return Err(place.misnumbered(found, state.number));
     }
-    let octets = done(answer.number, place, &out[..answer.octets])?;
-    *kept = Some(answer.state);
+    let octets = done(number, place, &speech)?;
+    *kept = Some(next);
     Ok(Made {
         octets,
         state: *kept,
@@ -176,6 +181,7 @@ fn inspect(totals: &mut Totals, frame: &[u8], place: Place) -> Result<Made, Stop
 #[cfg(test)]
 mod tests {
     use super::*;
+    use second::g711::Law;
 
     #[test]
     fn a_most_is_held_between_core_and_width() {
@@ -195,7 +201,7 @@ mod tests {
     fn stopped(frames: &[[u8; 5]]) -> Option<String> {
         let (mut kept, mut place) = (None, Place::default());
         for frame in frames {
-            if let Err(stop) = decode(Law::Mu, &mut kept, frame, place) {
+            if let Err(stop) = decode(End::Of(Law::Mu), &mut kept, frame, place) {
                 return Some(String::from_utf8_lossy(&stop.0).into_owned());
             }
             place = place.next(frame.len());
@@ -217,12 +223,52 @@ mod tests {
         );
     }
 
+    fn filled_up(from: End, piece: &[u8]) -> (Vec<u8>, Option<Line>) {
+        filled(from, piece, Place::default()).unwrap_or_else(|_| panic!("it is filled up"))
+    }
+
     #[test]
     fn only_what_is_no_whole_group_is_filled_up() {
-        let (samples, note) = filled(Law::A, &[1; 9], Place::default());
-        assert_eq!(samples[8..], [1, 0xD5, 0xD5, 0xD5, 0xD5, 0xD5, 0xD5, 0xD5]);
+        let (speech, note) = filled_up(End::Of(Law::A), &[1; 9]);
+        assert_eq!(speech[8..], [1, 0xD5, 0xD5, 0xD5, 0xD5, 0xD5, 0xD5, 0xD5]);
         assert!(note.is_some());
-        let (samples, note) = filled(Law::Mu, &[1; 8], Place::default());
-        assert_eq!((samples.len(), note), (8, None));
+        let (speech, note) = filled_up(End::Of(Law::Mu), &[1; 8]);
+        assert_eq!((speech.len(), note), (8, None));
+    }
+
+    /// Counted in samples, of which each has two octets.
+    #[test]
+    fn linear_speech_is_filled_up_with_zeros() {
+        let (speech, note) = filled_up(End::Linear, &[1; 14]);
+        assert_eq!(speech[14..], [0; 2]);
+        let due = b"frame 0 at octet 0: filled up with silence; samples added: 1";
+        assert_eq!(note, Some(due.to_vec()));
+        let (speech, note) = filled_up(End::Linear, &[1; 16]);
+        assert_eq!((speech.len(), note), (16, None));
+        assert!(filled(End::Linear, &[1; 15], Place::default()).is_err());
+    }
+
+    #[test]
+    fn a_sample_off_the_scale_is_told_with_its_place_in_the_stream() {
+        let plan = Plan {
+            from: End::Linear,
+            width: 5,
+            core: 2,
+            samples: 8,
+            edition: 1,
+        };
+        let place = Place {
+            frame: 3,
+            octet: 48,
+        };
+        let mut piece = [0; 16];
+        piece[10..12].copy_from_slice(&(-8_193_i16).to_le_bytes());
+        let mut state = State::reset(2);
+        let stop = encode(&plan, &mut state, &piece, place).err();
+        let line = stop.map(|stop| String::from_utf8_lossy(&stop.0).into_owned());
+        let due =
+            "frame 3 at octet 48: refused with 11: sample 29 is -8193, not from -8192 to 8191";
+        assert_eq!(line, Some(due.to_string()));
+        assert_eq!(state, State::reset(2));
     }
 }

@@ -5,10 +5,12 @@
 
 pub mod adaptation;
 pub mod calls;
+pub mod end;
 pub mod engine;
 pub mod float;
 pub mod frame;
 pub mod g711;
+pub mod linear;
 pub mod logarithm;
 pub mod predictor;
 pub mod quantizer;

@@ -13,6 +13,8 @@ pub const OTHER_CORE: u8 = 7;
 pub const BAD_TARGET_WIDTH: u8 = 8;
 pub const NO_SUCH_LAW: u8 = 9;
 pub const OTHER_NUMBER: u8 = 10;
+/// Of a linear one: an octet of G.711 is never out of range.
+pub const SAMPLE_OUT_OF_RANGE: u8 = 11;
 
 pub const NARROWEST_CORE: u8 = 2;
 pub const WIDEST_CORE: u8 = 4;

@@ -1,8 +1,9 @@
-//! One sample encoded, and one decoded with the synchronous coding adjustment at the width
-//! received (Recommendation, sections 4, 5 and 6.2.10).
+//! One sample encoded, and one decoded: to G.711 with the synchronous coding adjustment at the width
+//! received (Recommendation, sections 4, 5 and 6.2.10), or to a linear sample without it.
 
-use crate::engine::{advance, estimate};
+use crate::engine::{advance, estimate, Estimate};
 use crate::g711::{self, Law};
+use crate::linear;
 use crate::quantizer::{as_signed, quantize, reconstruct, thinned};
 use crate::state::State;
 use std::cmp::Ordering;
@@ -23,10 +24,20 @@ pub struct Decoded {
     pub state: State,
 }
 
+#[derive(Clone, Copy, Debug, PartialEq, Eq)]
+pub struct DecodedLinear {
+    pub sample: i16,
+    pub state: State,
+}
+
 pub fn encode(state: &State, law: Law, width: u8, byte: u8) -> Encoded {
+    encode_level(state, width, g711::expand(law, byte))
+}
+
+/// A sample by its level: EXPAND's of an octet, or a linear sample.
+pub fn encode_level(state: &State, width: u8, level: i32) -> Encoded {
     let expected = estimate(state);
-    let difference = g711::expand(law, byte) - expected.se;
-    let codeword = quantize(width, difference, expected.y);
+    let codeword = quantize(width, level - expected.se, expected.y);
     Encoded {
         codeword,
         state: advance(state, thinned(width, codeword, state.core)),
@@ -35,8 +46,7 @@ pub fn encode(state: &State, law: Law, width: u8, byte: u8) -> Encoded {
 
 pub fn decode(state: &State, law: Law, width: u8, codeword: u8) -> Decoded {
     let expected = estimate(state);
-    let sr = reconstruct(width, codeword, expected.y) + expected.se;
-    let sp = g711::compress(law, sr);
+    let sp = g711::compress(law, reconstructed(&expected, width, codeword));
     let dx = g711::expand(law, sp) - expected.se;
     let requantized = quantize(width, dx, expected.y);
     let sd = sync(law, width, sp, requantized, codeword);
@@ -46,6 +56,20 @@ pub fn decode(state: &State, law: Law, width: u8, codeword: u8) -> Decoded {
         disagrees: requantized != codeword,
         state: advance(state, thinned(width, codeword, state.core)),
     }
+}
+
+/// The reconstructed signal as it is, or held at an end of the scale.
+pub fn decode_linear(state: &State, width: u8, codeword: u8) -> DecodedLinear {
+    DecodedLinear {
+        sample: linear::held(reconstructed(&estimate(state), width, codeword)),
+        state: advance(state, thinned(width, codeword, state.core)),
+    }
+}
+
+/// SR of the output path, from the whole codeword. It lies from -29,184 to 29,183, so that sixteen
+/// bits hold it and nothing wraps: a difference is at most 12,800 and an estimate has 15 bits.
+fn reconstructed(expected: &Estimate, width: u8, codeword: u8) -> i32 {
+    reconstruct(width, codeword, expected.y) + expected.se
 }
 
 /// SYNC: a byte that would be requantized too low goes one level up, and the other way round.

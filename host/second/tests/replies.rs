@@ -8,8 +8,9 @@ use random::Random;
 use second::calls::{encode, reset};
 use second::state::State;
 use support::asked::{
-    decoded, dropped, encoded, head_octets, in_order, numbered_frame, sound_decoding,
-    sound_dropping, sound_encoding, sound_frame, Decoding, Dropping, Encoding, Fault,
+    decoded, decoding_in_order, dropped, encoded, head_octets, in_order, numbered_frame,
+    sound_decoding, sound_dropping, sound_encoding, sound_frame, Decoding, Dropping, Encoding,
+    Fault, DECODING_FAULTS,
 };
 
 #[test]
@@ -32,30 +33,9 @@ fn encode_answers_4_9_5_1_2_3_in_this_order() {
     }
 }
 
-/// The header's faults leave the others in place: a frame one octet too long is so for any x and
-/// g, and core 4 at width 5 is a pair.
 #[test]
 fn decode_answers_4_9_5_1_2_6_7_10_3_in_this_order() {
-    let faults: [Fault<Decoding>; 9] = [
-        (4, |ask| ask.state.yu = 543),
-        (9, |ask| ask.law = 255),
-        (5, |ask| ask.frame[0] |= 0b1100_0000),
-        (1, |ask| {
-            ask.frame[0] = ask.frame[0] & 0b1100_0111 | 0b0011_0000
-        }),
-        (2, |ask| ask.frame[1] = 0),
-        (6, |ask| ask.frame.push(0)),
-        (7, |ask| ask.frame[0] = ask.frame[0] & 0b1111_1000 | 4),
-        (10, |ask| ask.state.number = 200),
-        (3, |ask| ask.room = 0),
-    ];
-    let numbered = Decoding {
-        frame: numbered_frame(0),
-        ..sound_decoding()
-    };
-    in_order(numbered, &faults, decoded);
-    let of_edition_1: Vec<_> = faults.into_iter().filter(|fault| fault.0 != 10).collect();
-    in_order(sound_decoding(), &of_edition_1, decoded);
+    decoding_in_order(DECODING_FAULTS.into_iter(), decoded);
 }
 
 #[test]

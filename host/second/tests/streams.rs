@@ -1,61 +1,104 @@
 //! Whole streams: a decoder's state stays the encoder's while planes are dropped at random and
-//! width and edition change from frame to frame, and a held codeword takes a coefficient past
-//! 32,767.
+//! width and edition change from frame to frame, whichever samples either end has, and a held
+//! codeword takes a coefficient past 32,767.
 
 use random::states::{any_state, PAIRS};
 use random::Random;
-use second::calls::{self, decode, drop_planes, encode};
+use second::calls::{
+    self, decode, decode_linear, drop_planes, encode, encode_linear, EncodeAnswer,
+};
+use second::end::End;
 use second::frame::{read_header, unpack};
 use second::g711::{compress, Law};
 use second::sample;
 use second::state::State;
 
+/// One frame of an edition and a width, each level as near as the end has one.
+fn encode_levels(
+    from: End,
+    state: State,
+    (edition, width): (u8, u8),
+    levels: &[i32],
+    out: &mut [u8],
+) -> EncodeAnswer {
+    match from {
+        End::Of(law) => {
+            let pcm = compressed(law, levels);
+            encode(state, law.number(), edition, width, &pcm, out)
+        }
+        End::Linear => {
+            let samples: Vec<i16> = levels.iter().map(|&level| level as i16).collect();
+            encode_linear(state, edition, width, &samples, out)
+        }
+    }
+}
+
+/// The number, how many samples were written, and the state.
+fn decode_either(to: End, state: State, frame: &[u8]) -> (u8, usize, State) {
+    match to {
+        End::Of(law) => {
+            let answer = decode(state, law.number(), frame, &mut [0; 320]);
+            (answer.number, answer.octets, answer.state)
+        }
+        End::Linear => {
+            let answer = decode_linear(state, frame, &mut [0; 320]);
+            (answer.number, answer.samples, answer.state)
+        }
+    }
+}
+
 /// Noise around a level, both drawn anew for every frame.
-fn pcm(random: &mut Random, law: u8, count: usize) -> Vec<u8> {
-    let law = Law::from_number(law).unwrap();
+fn levels(random: &mut Random, count: usize) -> Vec<i32> {
     let strength = 1 << random.below(14);
     let offset = random.below(2 * strength) as i32 - strength as i32;
     let level =
         |_| (random.below(2 * strength) as i32 - strength as i32 + offset).clamp(-8_192, 8_191);
-    (0..count)
-        .map(level)
-        .map(|level| compress(law, level))
-        .collect()
+    (0..count).map(level).collect()
 }
 
-/// One frame sent through a random drop; both states after it.
-fn send(random: &mut Random, law: u8, core: u8, ends: (State, State)) -> (State, State) {
+fn compressed(law: Law, levels: &[i32]) -> Vec<u8> {
+    levels.iter().map(|&level| compress(law, level)).collect()
+}
+
+fn pcm(random: &mut Random, law: Law, count: usize) -> Vec<u8> {
+    compressed(law, &levels(random, count))
+}
+
+/// One frame sent through a random drop to an end of any kind; both states after it.
+fn send(random: &mut Random, from: End, core: u8, states: (State, State)) -> (State, State) {
     let width = core + random.below(u64::from(6 - core)) as u8;
     let samples = 8 * (1 + random.below(40) as usize);
     let edition = 1 + random.below(2) as u8;
     let mut frame = [0; 203];
-    let input = pcm(random, law, samples);
-    let sent = encode(ends.0, law, edition, width, &input, &mut frame);
+    let input = levels(random, samples);
+    let sent = encode_levels(from, states.0, (edition, width), &input, &mut frame);
     assert_eq!(sent.number, 0);
     let target = core + random.below(u64::from(width - core + 1)) as u8;
     let mut thin = [0; 203];
     let dropped = drop_planes(&frame[..sent.octets], target, &mut thin);
     assert_eq!(dropped.number, 0);
-    let mut out = [0; 320];
-    let other_law = random.below(2) as u8;
-    let received = decode(ends.1, other_law, &thin[..dropped.octets], &mut out);
-    assert_eq!((received.number, received.octets), (0, samples));
-    (sent.state, received.state)
+    let to = random.pick(&End::ALL);
+    let (number, written, heard) = decode_either(to, states.1, &thin[..dropped.octets]);
+    assert_eq!((number, written), (0, samples), "{from:?} to {to:?}");
+    (sent.state, heard)
 }
 
 #[test]
 fn the_decoder_follows_the_encoder_while_planes_are_dropped() {
     let mut random = Random::new(11);
     for core in 2..=4 {
-        for law in 0..2 {
+        for from in End::ALL {
             let start = calls::reset(core).state;
-            let mut ends = (start, start);
+            let mut states = (start, start);
             for frame in 0..300 {
-                ends = send(&mut random, law, core, ends);
-                assert_eq!(ends.0, ends.1, "frame {frame} at core {core}");
-                assert!(ends.0.in_range());
+                states = send(&mut random, from, core, states);
+                assert_eq!(
+                    states.0, states.1,
+                    "frame {frame} of {from:?} at core {core}"
+                );
+                assert!(states.0.in_range());
             }
-            assert_ne!(ends.0, start);
+            assert_ne!(states.0, start);
         }
     }
 }
@@ -66,7 +109,7 @@ fn a_thinned_frame_is_the_narrower_encoder_s_octet_for_octet() {
     for (width, core) in PAIRS {
         for edition in [1, 2] {
             let state = any_state(&mut random, core);
-            let input = pcm(&mut random, 0, 80);
+            let input = pcm(&mut random, Law::Mu, 80);
             let [mut wide, mut narrow, mut thin] = [[0xEE; 60]; 3];
             let sent = encode(state, 0, edition, 5, &input, &mut wide);
             let direct = encode(state, 0, edition, width, &input, &mut narrow);
@@ -103,7 +146,8 @@ fn the_count_is_that_of_samples_that_disagree() {
         let mut ever = 0;
         for _ in 0..20 {
             let mut frame = vec![0; 2 + 40 * usize::from(width)];
-            sender = encode(sender, 1, 1, width, &pcm(&mut random, 1, 320), &mut frame).state;
+            let input = pcm(&mut random, Law::A, 320);
+            sender = encode(sender, 1, 1, width, &input, &mut frame).state;
             let mut state = receiver;
             let mut disagreements = 0;
             let header = read_header(&frame).unwrap();

@@ -1,6 +1,7 @@
 //! A refused call may be made again as if it had not been made: the sound call, the call with a fault, the sound call again.
 //! The program keeps its memory from line to line, so the third answer tells what the refusal left there.
 
+use super::linear_parts::{decode_linear, encode_linear, linear_room, linear_samples};
 use super::parts::{at_number, decode, drop, encode, in_edition, octets, room, samples, unfit};
 use crate::call::Call;
 use crate::due::Due;
@@ -17,6 +18,7 @@ pub fn again(page: &mut Page) {
     decoded_again(page, s);
     dropped_again(page);
     numbered_again(page, at_number(3, 255));
+    linear_again(page, at_number(3, 255));
 }
 
 fn encoded_again(page: &mut Page, s: State) {
@@ -44,6 +46,25 @@ fn numbered_again(page: &mut Page, s: State) {
     let decoded = |number, length| {
         let frame = in_edition(2, number, octets(0x63, 2, 10));
         decode(s, 1, frame, room(length))
+    };
+    for (number, refused) in [(10, decoded(0, 16)), (3, decoded(255, 15))] {
+        three(page, Due::Done(16), &decoded(255, 16), number, refused);
+    }
+}
+
+fn linear_again(page: &mut Page, s: State) {
+    let coded = |last: i16, length| {
+        let mut samples = linear_samples(16);
+        samples[15] = last;
+        encode_linear(s, 2, 5, samples, room(length))
+    };
+    let sound = coded(8_191, 13);
+    for (number, refused) in [(11, coded(8_192, 13)), (3, coded(8_191, 12))] {
+        three(page, Due::Done(13), &sound, number, refused);
+    }
+    let decoded = |number, length| {
+        let frame = in_edition(2, number, octets(0x63, 2, 10));
+        decode_linear(s, frame, linear_room(length))
     };
     for (number, refused) in [(10, decoded(0, 16)), (3, decoded(255, 15))] {
         three(page, Due::Done(16), &decoded(255, 16), number, refused);

@@ -1,5 +1,6 @@
 //! Calls drawn as a fuzzer would: each with mostly sound inputs, some spoilt in one place, some garbage.
 
+use super::linear_parts::{decode_linear, encode_linear};
 use super::parts::{decode, drop, encode, frame, frame_octets, in_edition, EDITIONS};
 use super::states::likely_state;
 use crate::call::Call;
@@ -20,6 +21,18 @@ pub fn drawn(page: &mut Page) {
     for _ in 0..CALLS {
         let call = any_call(&mut random);
         page.ask(call);
+    }
+}
+
+pub fn linear_drawn(page: &mut Page) {
+    page.group(
+        "linear-drawn",
+        "100 linear calls from seed 39, mostly sound, some spoilt in one place, some garbage",
+    );
+    let mut random = Random::new(39);
+    for _ in 0..50 {
+        page.ask(any_encode_linear(&mut random));
+        page.ask(any_decode_linear(&mut random));
     }
 }
 
@@ -78,16 +91,20 @@ fn spoil(random: &mut Random, state: &mut State) {
     }
 }
 
-/// As much as is due, or a little less or more.
 fn some_room(random: &mut Random, due: usize) -> Vec<u8> {
-    let length = match random.below(12) {
+    let length = some_length(random, due);
+    vec![random.byte(); length]
+}
+
+/// As much as is due, or a little less or more.
+fn some_length(random: &mut Random, due: usize) -> usize {
+    match random.below(12) {
         0 => 0,
         1 => due.saturating_sub(1),
         2 => due + 1,
         3 => due + 5,
         _ => due,
-    };
-    vec![random.byte(); length]
+    }
 }
 
 fn some_count(random: &mut Random) -> usize {
@@ -116,6 +133,29 @@ fn any_encode(random: &mut Random) -> Call {
     encode(state, any_law(random), edition, width, samples, out)
 }
 
+fn any_encode_linear(random: &mut Random) -> Call {
+    let pair = random.pick(&PAIRS);
+    let state = some_state(random, pair.1);
+    let width = some_width(random, pair);
+    let edition = some_edition(random);
+    let count = some_count(random);
+    let samples = some_linear_samples(random, count);
+    let out = some_room(random, frame_octets(edition, width, count));
+    encode_linear(state, edition, width, samples, out)
+}
+
+/// About one level, loud or faint. In one frame of eight a sample is anything.
+fn some_linear_samples(random: &mut Random, count: usize) -> Vec<i16> {
+    let (level, spread) = (random.below(16_384) as i32, 1 << random.below(15));
+    let mut any = || (level + random.below(spread) as i32) % 16_384 - 8_192;
+    let mut samples: Vec<i16> = (0..count).map(|_| any() as i16).collect();
+    if random.below(8) == 0 && count > 0 {
+        let place = random.below(count as u64) as usize;
+        samples[place] = random.draw() as i16;
+    }
+    samples
+}
+
 fn some_edition(random: &mut Random) -> u8 {
     match random.below(24) {
         0 => random.byte(),
@@ -140,6 +180,16 @@ fn any_decode(random: &mut Random) -> Call {
     let samples = frame.get(1).map_or(0, |&groups| 8 * usize::from(groups));
     let out = some_room(random, samples.min(330));
     decode(state, any_law(random), frame, out)
+}
+
+fn any_decode_linear(random: &mut Random) -> Call {
+    let pair = random.pick(&PAIRS);
+    let state = some_state(random, pair.1);
+    let number = some_number(random, state.number);
+    let frame = some_frame(random, pair, number);
+    let due = frame.get(1).map_or(0, |&groups| 8 * usize::from(groups));
+    let length = some_length(random, due.min(330));
+    decode_linear(state, frame, vec![random.draw() as i16; length])
 }
 
 /// Mostly the one that is due.

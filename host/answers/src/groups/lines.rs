@@ -1,5 +1,6 @@
 //! Lines that are no calls: each gets a comment with its number and what is wrong with it.
 
+use super::linear_lines;
 use super::parts::{encode, room};
 use super::text_lines;
 use crate::answer::LONGEST;
@@ -8,7 +9,7 @@ use crate::due::Due;
 use crate::page::Page;
 use second::state::State;
 
-const STATE: &str = "544,34816,0,0,0,0,0,0,0,0,0,0,0,32,32,32,32,32,32,32,32,0,0,0,2,1";
+pub const STATE: &str = "544,34816,0,0,0,0,0,0,0,0,0,0,0,32,32,32,32,32,32,32,32,0,0,0,2,1";
 
 pub fn lines(page: &mut Page) {
     page.group(
@@ -19,6 +20,7 @@ pub fn lines(page: &mut Page) {
     numbers(page);
     octets(page);
     states(page);
+    linear_lines::linear_lines(page);
     text_lines::text_lines(page);
     long(page);
     last(page);

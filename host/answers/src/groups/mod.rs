@@ -10,7 +10,13 @@ mod drawn;
 mod drawn_texts;
 mod editions;
 pub mod ends;
+mod expanded;
 mod limits;
+mod linear_buffers;
+mod linear_ends;
+mod linear_lines;
+mod linear_parts;
+mod linear_replies;
 mod lines;
 mod lost;
 mod numbers;
@@ -36,7 +42,7 @@ mod writers;
 mod written;
 mod zeros;
 
-const GROUPS: [fn(&mut Page); 43] = [
+const GROUPS: [fn(&mut Page); 50] = [
     worked::frames,
     worked::first_bytes,
     worked::levels,
@@ -73,6 +79,13 @@ const GROUPS: [fn(&mut Page); 43] = [
     output_path::synchronous,
     ends::ends,
     drawn::drawn,
+    linear_replies::linear_replies,
+    order::linear_order,
+    linear_buffers::linear_buffers,
+    linear_ends::linear_ends,
+    expanded::expanded,
+    streams::linear_streams,
+    drawn::linear_drawn,
     texts::texts,
     cuts::cuts,
     drawn_texts::drawn_texts,

@@ -1,9 +1,10 @@
 //! Rows that could be exchanged: for each pair of rows of a call an input with both faults, and one with all of them.
 
+use super::linear_parts::{decode_linear, encode_linear, linear_room, linear_samples};
 use super::parts::{
     decode, drop, encode, head_octets, in_edition, octets, room, samples, unfit, EDITIONS,
 };
-use crate::call::{Call, Decode, Drop, Encode};
+use crate::call::{Call, Decode, DecodeLinear, Drop, Encode, EncodeLinear};
 use crate::due::Due;
 use crate::page::Page;
 use second::state::State;
@@ -34,6 +35,27 @@ const DECODE: [Fault<Decode>; 9] = [
     (3, |c| c.out.clear()),
 ];
 
+/// As those of a law, without its row and with that of a sample. Twelve samples have the wrong one too.
+const ENCODE_LINEAR: [Fault<EncodeLinear>; 6] = [
+    (4, |c| c.state = unfit(c.state.core)),
+    (5, |c| c.edition = 3),
+    (1, |c| c.width = 2),
+    (2, |c| c.samples.truncate(12)),
+    (11, |c| c.samples[11] = -8_193),
+    (3, |c| c.out.truncate(1)),
+];
+
+const DECODE_LINEAR: [Fault<DecodeLinear>; 8] = [
+    (4, |c| c.state.yu = 543),
+    (5, |c| c.frame[0] |= 0b1100_0000),
+    (1, |c| c.frame[0] = c.frame[0] & 0b1100_0111 | 0b0011_0000),
+    (2, |c| c.frame[1] = 0),
+    (6, |c| c.frame.push(0)),
+    (7, |c| c.frame[0] = c.frame[0] & 0b1111_1000 | 4),
+    (10, |c| c.state.number = 200),
+    (3, |c| c.out.clear()),
+];
+
 const DROP: [Fault<Drop>; 6] = [
     (5, |c| c.frame[0] &= 0b0011_1111),
     (1, |c| c.frame[0] = c.frame[0] & 0b1111_1000 | 7),
@@ -53,7 +75,31 @@ pub fn order(page: &mut Page) {
     }
 }
 
+pub fn linear_order(page: &mut Page) {
+    page.group(
+        "linear-order",
+        "two faults at a time, every pair of rows of the linear calls in both editions, and all at once",
+    );
+    for edition in EDITIONS {
+        let out = room(head_octets(edition) + 10);
+        let sound = encode_linear(State::reset(3), edition, 5, linear_samples(16), out);
+        if let Call::EncodeLinear(sound) = sound {
+            in_pairs(page, &sound, &ENCODE_LINEAR, Call::EncodeLinear);
+        }
+        let frame = in_edition(edition, 0, octets(0x6B, 2, 12));
+        if let Call::DecodeLinear(sound) = decode_linear(State::reset(3), frame, linear_room(16)) {
+            let rows = with_number_in_edition_2(&DECODE_LINEAR, edition);
+            in_pairs(page, &sound, &rows, Call::DecodeLinear);
+        }
+    }
+}
+
 /// Edition 1 has no row 10.
+fn with_number_in_edition_2<T>(faults: &[Fault<T>], edition: u8) -> Vec<Fault<T>> {
+    let met = |row: &&Fault<T>| edition == 2 || row.0 != 10;
+    faults.iter().filter(met).copied().collect()
+}
+
 fn in_edition_s_order(page: &mut Page, edition: u8) {
     let head = head_octets(edition);
     let sound = encode(State::reset(3), 0, edition, 5, samples(16), room(head + 10));
@@ -62,8 +108,8 @@ fn in_edition_s_order(page: &mut Page, edition: u8) {
     }
     let frame = in_edition(edition, 0, octets(0x6B, 2, 12));
     if let Call::Decode(sound) = decode(State::reset(3), 1, frame.clone(), room(16)) {
-        let rows = DECODE.into_iter().filter(|row| edition == 2 || row.0 != 10);
-        in_pairs(page, &sound, &rows.collect::<Vec<_>>(), Call::Decode);
+        let rows = with_number_in_edition_2(&DECODE, edition);
+        in_pairs(page, &sound, &rows, Call::Decode);
     }
     if let Call::Drop(sound) = drop(frame, 4, room(head + 8)) {
         in_pairs(page, &sound, &DROP, Call::Drop);

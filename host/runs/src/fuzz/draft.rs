@@ -1,10 +1,11 @@
 //! A call by its parts, drawn from the grammar of docs/TOOL.md so that all of it fits, and the faults
 //! that its data, its files and their names may get.
 
-use super::streams::{damage, frames, misplace, narrowest, sound, EDITIONS};
+use super::streams::{damage, frames, misplace, narrowest, sound, spoil_linear, EDITIONS};
 use crate::run::{Files, Given};
 use random::states::PAIRS;
 use random::Random;
+use second::end::End;
 use second::g711::Law;
 use std::ffi::OsString;
 
@@ -68,6 +69,10 @@ impl Draft {
         ["encode", "decode"].contains(&self.command[0].as_str())
     }
 
+    fn is_linear_encode(&self) -> bool {
+        self.command.starts_with(&words("encode linear"))
+    }
+
     /// IN and OUT, and what files of theirs were before.
     fn draw_files(&mut self, random: &mut Random) {
         self.input = [None, Some("-"), Some(random.pick(&INPUTS))][random.below(3) as usize];
@@ -93,10 +98,17 @@ impl Draft {
             }
             2 if self.has_states() => self.states = Some(unwritten),
             2..=4 if self.list.is_some() => self.spoil_list(random),
+            _ if self.is_linear_encode() => self.spoil_speech(random),
             _ if self.command[0] == "encode" => self.input = Some("none"),
             5..=7 => misplace(random, &mut self.stream),
             _ => damage(random, &mut self.stream),
         }
+    }
+
+    fn spoil_speech(&mut self, random: &mut Random) {
+        let mut speech = self.stream.concat();
+        spoil_linear(random, &mut speech);
+        self.stream = vec![speech];
     }
 
     /// One name for two files, of which one is written.
@@ -187,9 +199,9 @@ pub fn words(text: &str) -> Vec<String> {
 }
 
 fn encode(random: &mut Random) -> Draft {
-    let law = random.pick(&Law::BOTH);
+    let end = random.pick(&End::ALL);
     let (width, core) = random.pick(&PAIRS);
-    let mut call = words(&format!("encode {} {width} {core}", word_of(law)));
+    let mut call = words(&format!("encode {} {width} {core}", word_of_end(end)));
     if random.below(2) == 0 {
         let groups = random.within(1, 40);
         call.push((8 * groups).to_string());
@@ -199,7 +211,7 @@ fn encode(random: &mut Random) -> Draft {
     }
     let bound = random.pick(&[20, 100, 700]);
     let count = random.below(bound) as usize;
-    Draft::new(call, vec![sound(random, law, count)])
+    Draft::new(call, vec![sound(random, end, count)])
 }
 
 pub fn word_of(law: Law) -> &'static str {
@@ -209,9 +221,16 @@ pub fn word_of(law: Law) -> &'static str {
     }
 }
 
+fn word_of_end(end: End) -> &'static str {
+    match end {
+        End::Of(law) => word_of(law),
+        End::Linear => "linear",
+    }
+}
+
 fn decode(random: &mut Random) -> Draft {
-    let law = random.pick(&Law::BOTH);
-    let call = words(&format!("decode {}", word_of(law)));
+    let end = random.pick(&End::ALL);
+    let call = words(&format!("decode {}", word_of_end(end)));
     Draft::new(call, one_core(random).1)
 }
 

@@ -64,8 +64,8 @@ mod tests {
     #[test]
     fn every_part_of_the_grammar_is_drawn() {
         let words = [
-            "encode", "drop", "decode", "inspect", "mu", "a", "-v", "-states", "-most", "-list",
-            "-", "in", "./160", "./-", "out", "./8", "s", "./7", "w", "320",
+            "encode", "drop", "decode", "inspect", "mu", "a", "linear", "-v", "-states", "-most",
+            "-list", "-", "in", "./160", "./-", "out", "./8", "s", "./7", "w", "320",
         ];
         drawn::every_word_is_drawn(draw, &words);
     }

@@ -7,7 +7,7 @@ use std::os::unix::ffi::OsStringExt;
 
 /// Wrong words for the tool. No name of a file without an end is among them, since any of them may
 /// become IN.
-pub const OF_TOOL: [&str; 46] = [
+pub const OF_TOOL: [&str; 48] = [
     "",
     "-",
     "--",
@@ -41,8 +41,10 @@ pub const OF_TOOL: [&str; 46] = [
     "x",
     "mu",
     "a",
+    "linear",
     "ulaw",
     "A",
+    "Linear",
     "encode",
     "drop",
     "decode",
@@ -57,7 +59,7 @@ pub const OF_TOOL: [&str; 46] = [
 ];
 
 /// Wrong words for `sequences`; any of them may become HOMING.
-pub const OF_SEQUENCES: [&str; 31] = [
+pub const OF_SEQUENCES: [&str; 32] = [
     "",
     "-",
     "--",
@@ -79,6 +81,7 @@ pub const OF_SEQUENCES: [&str; 31] = [
     "18446744073709551618",
     "mu",
     "a",
+    "linear",
     "A",
     "read",
     "write",

@@ -5,6 +5,7 @@ use super::ends::{Odd, Redirected};
 use super::streams::{sound, stream, EDITIONS};
 use crate::run::{Done, Files, Given};
 use random::Random;
+use second::end::End;
 use second::frame::NUMBERED;
 use second::g711::Law;
 use std::ffi::OsString;
@@ -22,6 +23,7 @@ pub fn calls() -> Vec<Given> {
     calls.extend(odd_files());
     calls.extend(lists());
     calls.extend(long_streams());
+    calls.extend(long_linear());
     calls
 }
 
@@ -134,7 +136,7 @@ fn lists() -> Vec<Given> {
 /// a refusal, a cut or a lost frame at the end.
 fn long_streams() -> Vec<Given> {
     let mut random = Random::new(727);
-    let speech = sound(&mut random, Law::Mu, 20_003);
+    let speech = sound(&mut random, End::Of(Law::Mu), 20_003);
     let frames = stream(&mut random, 3, &EDITIONS, 900);
     let whole = frames.concat();
     let refused = [whole.as_slice(), &[0, 0]].concat();
@@ -147,6 +149,7 @@ fn long_streams() -> Vec<Given> {
     for stream in [whole, refused, cut, lost] {
         for words in [
             &["-states", "s", "decode", "a"][..],
+            &["-v", "decode", "linear", "-", "out"],
             &["drop", "-most", "4", "-", "out"],
             &["inspect"],
         ] {
@@ -154,6 +157,21 @@ fn long_streams() -> Vec<Given> {
         }
     }
     calls
+}
+
+/// Linear speech longer than the buffers of either program: whole, with half a sample more, with one
+/// sample off the scale.
+fn long_linear() -> Vec<Given> {
+    let mut random = Random::new(728);
+    let speech = sound(&mut random, End::Linear, 10_005);
+    let odd = [speech.as_slice(), &[0]].concat();
+    let mut off = speech.clone();
+    off[20_000..20_002].copy_from_slice(&8_192_i16.to_le_bytes());
+    let words = |samples| ["-v", "encode", "linear", "5", "2", samples, "2"];
+    [&speech, &odd, &off]
+        .into_iter()
+        .flat_map(|speech| ["8", "320"].map(|samples| given(&words(samples), speech)))
+        .collect()
 }
 
 /// Calls whose streams are no ordinary pipes.
@@ -170,10 +188,13 @@ pub fn odd() -> Odd {
 /// Each command, with so many pieces that every read has to wait.
 fn slow() -> Vec<Given> {
     let mut random = Random::new(726);
-    let speech = sound(&mut random, Law::A, 101);
+    let speech = sound(&mut random, End::Of(Law::A), 101);
     let stream = stream(&mut random, 2, &EDITIONS, 9).concat();
+    let linear = sound(&mut random, End::Linear, 52);
     vec![
         given(&["-v", "encode", "a", "3", "2", "16"], &speech),
+        given(&["-v", "encode", "linear", "5", "2", "16"], &linear),
+        given(&["decode", "linear"], &stream),
         given(&["drop", "-most", "3", "-", "out"], &stream),
         given(&["-states", "s", "decode", "mu"], &stream),
         given(&["inspect"], &stream[..stream.len() - 1]),
@@ -216,6 +237,7 @@ mod tests {
 
     #[test]
     fn the_long_streams_are_long() {
-        assert!(long_streams().iter().all(|given| given.input.len() > 9_000));
+        let all = [long_streams(), long_linear()].concat();
+        assert!(all.iter().all(|given| given.input.len() > 9_000));
     }
 }

@@ -2,28 +2,61 @@
 
 use random::Random;
 use second::calls;
+use second::end::End;
 use second::frame::{HEADER_OCTETS, NUMBERED, PLAIN};
 use second::g711::{compress, Law};
+use second::linear::{GREATEST, LEAST};
 use second::state::State;
 
 pub const EDITIONS: [u8; 2] = [PLAIN, NUMBERED];
 /// Octets of the longest frame, which is of edition 2.
 const LONGEST: usize = 203;
 
-/// Octets of any value, or noise whose levels hang together as those of speech do.
-pub fn sound(random: &mut Random, law: Law, count: usize) -> Vec<u8> {
-    if random.below(3) == 0 {
-        return random.bytes(count);
+/// Samples of any value that is taken, or noise whose levels hang together as those of speech do.
+pub fn sound(random: &mut Random, end: End, count: usize) -> Vec<u8> {
+    match (random.below(3), end) {
+        (0, End::Of(_)) => random.bytes(count),
+        (0, End::Linear) => {
+            let scale = u64::from(GREATEST.abs_diff(LEAST));
+            let mut any = || random.within(0, scale) as i16 + LEAST;
+            linear(&(0..count).map(|_| any()).collect::<Vec<_>>())
+        }
+        (_, End::Of(law)) => {
+            let levels = noise(random, count).into_iter();
+            levels.map(|level| compress(law, level.into())).collect()
+        }
+        (_, End::Linear) => linear(&noise(random, count)),
     }
+}
+
+fn noise(random: &mut Random, count: usize) -> Vec<i16> {
     let strength = 1 << random.within(3, 11);
     let mut level = 0;
     (0..count)
         .map(|_| {
             let push = random.below(2 * strength) as i32 - strength as i32;
             level = (level * 7 / 8 + push).clamp(-8_000, 8_000);
-            compress(law, level)
+            level as i16
         })
         .collect()
+}
+
+fn linear(samples: &[i16]) -> Vec<u8> {
+    samples.iter().flat_map(|s| s.to_le_bytes()).collect()
+}
+
+/// Speech in linear samples that encode does not take: one is off the scale, or there is half of one
+/// more.
+pub fn spoil_linear(random: &mut Random, speech: &mut Vec<u8>) {
+    let (samples, _) = speech.as_chunks_mut();
+    if samples.is_empty() || random.below(3) == 0 {
+        speech.push(random.byte());
+        return;
+    }
+    let far = random.within(u64::from(GREATEST.unsigned_abs()) + 1, 32_767) as i16;
+    let off = random.pick(&[GREATEST + 1, LEAST - 1, i16::MIN, far, -far - 1]);
+    let place = random.below(samples.len() as u64) as usize;
+    samples[place] = off.to_le_bytes();
 }
 
 /// Up to nine frames of one core, of one edition or of both.
@@ -52,7 +85,7 @@ fn frame(random: &mut Random, law: Law, edition: u8, state: &mut State) -> Vec<u
     let samples = 8 * random.within(1, most_groups) as usize;
     let width = random.within(state.core.into(), 5) as u8;
     let mut out = [0; LONGEST];
-    let pcm = sound(random, law, samples);
+    let pcm = sound(random, End::Of(law), samples);
     let answer = calls::encode(*state, law.number(), edition, width, &pcm, &mut out);
     *state = answer.state;
     out[..answer.octets].to_vec()
@@ -160,6 +193,38 @@ mod tests {
         let due: Vec<u8> = (0..=255).cycle().take(numbers.len()).collect();
         assert_eq!(numbers, due);
         assert!((300..600).contains(&numbers.len()));
+    }
+
+    fn samples_of(speech: &[u8]) -> Vec<i16> {
+        let (pairs, _) = speech.as_chunks();
+        pairs.iter().map(|&pair| i16::from_le_bytes(pair)).collect()
+    }
+
+    #[test]
+    fn linear_speech_keeps_to_the_scale_and_meets_its_ends() {
+        let mut random = Random::new(4);
+        let speech: Vec<u8> = (0..60)
+            .flat_map(|_| sound(&mut random, End::Linear, 40))
+            .collect();
+        let samples = samples_of(&speech);
+        assert_eq!(samples.len(), 60 * 40);
+        assert_eq!(samples.iter().min(), Some(&LEAST));
+        assert_eq!(samples.iter().max(), Some(&GREATEST));
+    }
+
+    #[test]
+    fn spoilt_linear_speech_is_odd_or_off_the_scale() {
+        let mut random = Random::new(5);
+        let (mut odd, mut off) = (0, 0);
+        for count in (0..9).cycle().take(300) {
+            let mut speech = sound(&mut random, End::Linear, count);
+            spoil_linear(&mut random, &mut speech);
+            let is_off = |s: &i16| !(LEAST..=GREATEST).contains(s);
+            odd += speech.len() % 2;
+            off += samples_of(&speech).iter().filter(|s| is_off(s)).count();
+        }
+        assert_eq!(odd + off, 300);
+        assert!(odd > 50 && off > 50, "{odd} {off}");
     }
 
     #[test]
