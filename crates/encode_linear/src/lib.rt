@@ -1,6 +1,5 @@
 // The call encode_linear: the linear end of an encoder. Its reply, the samples' levels, the answer (specs/Encode.antt of levels).
 ghost use mathlib.Core.Bool.{true};
-ghost use mathlib.Core.List.{map};
 ghost use mathlib.Core.Path.{_≡_};
 ghost use Prim.Native.Nat.{_≤_};
 ghost use lib.ListN.{length};

@@ -1,18 +1,18 @@
 -- An encoder knows of its samples the levels alone. So each octet expanded and lent to the linear encoder gives the G.711 encoder's answer: its number, its octets, its
 -- state and every octet of out.
-use mathlib.Core.Bool.{Bool, true}
+use mathlib.Core.Bool.{true}
 use mathlib.Core.List.{List, [], _∷_, map}
 use mathlib.Core.Path.{_≡_, refl, sym, _∙_}
 use Prim.Native.Nat.{ℕ}
 use lib.IntN.{ℤ}
-use lib.ListN.{length, length-map}
+use lib.ListN.{length}
 use Rattle.words.specs.Every.{every}
 use Rattle.g711.specs.Expand.{EXPAND}
 use Rattle.g711.proofs.Extent.{expand-lt}
-use Rattle.linear.specs.Linear.{SL, signed}
+use Rattle.linear.specs.Linear.{signed}
 use Rattle.linear.proofs.Levels.{word-level, word-again}
 use Rattle.state.specs.declared.State.{State}
-use Rattle.sample.specs.End.{End, pcm, linear, Sample, isEnd, levelOf}
+use Rattle.sample.specs.End.{End, pcm, linear, Sample, isEnd}
 use Rattle.replies.specs.Reply.{isLaw}
 use Rattle.levels.specs.declared.EncodeAnswer.{EncodeAnswer}
 use Rattle.levels.specs.Levels.{encodedCodewords}

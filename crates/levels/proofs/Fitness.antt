@@ -1,6 +1,6 @@
 -- What a 0 of the encoders says of their inputs, and that fit inputs get no other number.
-use mathlib.Core.Bool.{Bool, true}
-use mathlib.Core.Path.{_≡_, refl}
+use mathlib.Core.Bool.{Bool, true, false}
+use mathlib.Core.Path.{_≡_, refl, _∙_}
 use Prim.Native.Nat.{ℕ, _*_, _/_, _≤_}
 use native.Mathlib.Omega.{arith}
 use borrow.Author.Tests.{ltb-false, le-ltb, not-false}
@@ -57,6 +57,11 @@ module _ (known : Bool) (s : State) (e width n : ℕ) where
     pub encode-behind : NoneApplies (askedRows known s e width n) → encodeNumber known s e width n taken room ≡ first (lentRows taken (dueHeader s e width n) room)
     unfolding encodeNumber
     encode-behind none = first-behind (askedRows known s e width n) (lentRows taken (dueHeader s e width n) room) none
+
+    -- what is asked being sound, one sample that cannot be taken refuses the call with 11, whatever room there is
+    pub sample-refused : NoneApplies (askedRows known s e width n) → taken ≡ false → encodeNumber known s e width n taken room ≡ 11
+    unfolding first
+    sample-refused none outside = encode-behind none ∙ rw outside
 
 -- and they are no more than the longest frame has
 pub encodable-few : {s : State} {h : Header} {n room : ℕ} → Encodable s h n room → n ≤ mostGroups numbered * group

@@ -1,67 +1,38 @@
 -- The linear end at zero, at both ends of the levels and just past them, on the way in and on the way out; and what holding does to any number.
-use mathlib.Core.Bool.{Bool, true, false, _&&_}
-use mathlib.Core.List.{List, [], _∷_}
-use mathlib.Core.Path.{_≡_, refl, sym, _∙_}
-use Prim.Native.Nat.{ℕ, _≤_}
-use native.Mathlib.Omega.{arith}
-use lib.Dec.{T, ltb}
+use mathlib.Core.Bool.{true, false}
+use mathlib.Core.List.{List, [], _∷_, map}
+use mathlib.Core.Path.{_≡_, refl}
+use Prim.Native.Nat.{ℕ}
+use lib.Dec.{ltb}
 use lib.IntN.{ℤ, pos, negsuc, negℤ}
-use lib.Signed.{leZ, ltZ}
-use borrow.Author.Tests.{leb-true, le-leb, ltb-true, ltb-false, le-ltb}
-use Rattle.words.specs.Notation.{pick, _when_∣_}
+use borrow.Author.Tests.{leb-true, le-leb, ltb-false, le-ltb}
 use Rattle.words.proofs.Pick.{by-pick}
 use Rattle.words.proofs.Rows.{both}
 use Rattle.linear.specs.Linear.{lowest, highest, isLevel, SL, signed, held}
 
--- in: whether an encoder takes the number, and its level, 14 bits in two's complement
-pub record In : Type 0 where
-  pub sample : ℤ
-  pub taken : Bool
-  pub level : ℕ
+-- in: whether an encoder takes the number, and the word of each that it takes, 14 bits in two's complement
+pub ends-in : map isLevel (negℤ (pos 8193) ∷ negℤ (pos 8192) ∷ negℤ (pos 1) ∷ pos 0 ∷ pos 8191 ∷ pos 8192 ∷ []) ≡ false ∷ true ∷ true ∷ true ∷ true ∷ false ∷ []
+unfolding isLevel
+ends-in = refl
 
-abbrev pub ins : List In
-ins =
-    record { sample = negℤ (pos 8193); taken = false; level = 8191 }
-    ∷ record { sample = negℤ (pos 8192); taken = true; level = 8192 }
-    ∷ record { sample = negℤ (pos 1); taken = true; level = 16383 }
-    ∷ record { sample = pos 0; taken = true; level = 0 }
-    ∷ record { sample = pos 8191; taken = true; level = 8191 }
-    ∷ record { sample = pos 8192; taken = false; level = 8192 }
-    ∷ []
+pub words-in : map SL (negℤ (pos 8192) ∷ negℤ (pos 1) ∷ pos 0 ∷ pos 8191 ∷ []) ≡ 8192 ∷ 16383 ∷ 0 ∷ 8191 ∷ []
+unfolding SL
+words-in = refl
 
-abbrev pub AllIn : List In → Type 0
-AllIn [] = Unit
-AllIn (r ∷ rs) = (isLevel (r .sample) ≡ r .taken) × (SL (r .sample) ≡ r .level) × AllIn rs
+-- out: words of reconstructed signals, from the least to the greatest; the numbers that they are, and the samples that are put out
+abbrev pub words : List ℕ
+words = 32768 ∷ 57343 ∷ 57344 ∷ 65535 ∷ 0 ∷ 8191 ∷ 8192 ∷ 32767 ∷ []
 
-pub ends-in : AllIn ins
-unfolding isLevel SL
-ends-in = (refl, refl, (refl, refl, (refl, refl, (refl, refl, (refl, refl, (refl, refl, tt))))))
+abbrev pub numbers : List ℤ
+numbers = negℤ (pos 32768) ∷ negℤ (pos 8193) ∷ negℤ (pos 8192) ∷ negℤ (pos 1) ∷ pos 0 ∷ pos 8191 ∷ pos 8192 ∷ pos 32767 ∷ []
 
--- out: the word of a reconstructed signal, the number that it is, and the sample that is put out
-pub record Out : Type 0 where
-  pub word : ℕ
-  pub number : ℤ
-  pub sample : ℤ
+pub words-out : map (signed 16) words ≡ numbers
+unfolding signed
+words-out = refl
 
-abbrev pub outs : List Out
-outs =
-    record { word = 32768; number = negℤ (pos 32768); sample = negℤ (pos 8192) }
-    ∷ record { word = 57343; number = negℤ (pos 8193); sample = negℤ (pos 8192) }
-    ∷ record { word = 57344; number = negℤ (pos 8192); sample = negℤ (pos 8192) }
-    ∷ record { word = 65535; number = negℤ (pos 1); sample = negℤ (pos 1) }
-    ∷ record { word = 0; number = pos 0; sample = pos 0 }
-    ∷ record { word = 8191; number = pos 8191; sample = pos 8191 }
-    ∷ record { word = 8192; number = pos 8192; sample = pos 8191 }
-    ∷ record { word = 32767; number = pos 32767; sample = pos 8191 }
-    ∷ []
-
-abbrev pub AllOut : List Out → Type 0
-AllOut [] = Unit
-AllOut (r ∷ rs) = (signed 16 (r .word) ≡ r .number) × (held (r .number) ≡ r .sample) × AllOut rs
-
-pub ends-out : AllOut outs
-unfolding signed held
-ends-out = (refl, refl, (refl, refl, (refl, refl, (refl, refl, (refl, refl, (refl, refl, (refl, refl, (refl, refl, tt))))))))
+pub ends-out : map held numbers ≡ negℤ (pos 8192) ∷ negℤ (pos 8192) ∷ negℤ (pos 8192) ∷ negℤ (pos 1) ∷ pos 0 ∷ pos 8191 ∷ pos 8191 ∷ pos 8191 ∷ []
+unfolding held
+ends-out = refl
 
 -- a level is put out as it is
 pub held-level : (x : ℤ) → isLevel x ≡ true → held x ≡ x

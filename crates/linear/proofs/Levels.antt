@@ -1,15 +1,14 @@
 -- A sample and its level: a level has 14 bits, and is the sample again where it is read as signed; every word of 14 bits is some sample's level.
-use mathlib.Core.Bool.{Bool, true, false}
+use mathlib.Core.Bool.{true}
 use mathlib.Core.Path.{_≡_, refl, ap}
 use Prim.Native.Nat.{ℕ, _-_, _<_}
 use native.Mathlib.Omega.{arith}
 use lib.Dec.{ltb}
 use lib.IntN.{ℤ, pos, negsuc}
 use borrow.Author.Tests.{leb-true, le-leb, ltb-true, ltb-false, lt-ltb, le-ltb}
-use Rattle.words.specs.Notation.{_when_∣_}
 use Rattle.words.proofs.Pick.{by-pick}
 use Rattle.words.proofs.Rows.{both}
-use Rattle.linear.specs.Linear.{isLevel, SL, signed, held}
+use Rattle.linear.specs.Linear.{isLevel, SL, signed}
 
 pub level-short : (x : ℤ) → isLevel x ≡ true → SL x < 16384
 unfolding isLevel SL

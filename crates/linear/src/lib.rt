@@ -2,7 +2,6 @@
 // unsigned takes no negative number, so these are negated on their way.
 ghost use mathlib.Core.Bool.{true};
 ghost use mathlib.Core.Path.{_≡_};
-ghost use lib.IntN.{ℤ};
 ghost use Rattle.linear.specs.Linear.{isLevel, SL, signed, held};
 
 const LOWEST: i16 = -8192;

@@ -1,7 +1,7 @@
 -- `encode_linear::encode_reply` meets its contract: the rows of what is asked, and behind them those of what is lent.
 use borrow.Author.Needs.{needs}
 use mathlib.Core.Bool.{true}
-use mathlib.Core.Path.{_≡_, sym, _∙_}
+use mathlib.Core.Path.{sym, _∙_}
 use lib.ListN.{length}
 use denote.Ref.{now}
 use Rattle.words.proofs.First.{NoneApplies, first-says}

@@ -1,11 +1,10 @@
 -- `encode_linear::level_all` meets its contract: the levels so far stand in the buffer.
 use borrow.Author.Needs.{needs}
-use mathlib.Core.Bool.{true}
-use mathlib.Core.Path.{_≡_, _∙_, sym}
+use mathlib.Core.Path.{_∙_, sym}
 use Prim.Native.Nat.{_-_}
 use native.Mathlib.Omega.{arith}
 use lib.IntN.{pos}
-use lib.ListN.{length, getD}
+use lib.ListN.{length}
 use denote.Ref.{now}
 use Rattle.lists.proofs.Filled.{Filled, filled-none, filled-more, filled-all}
 use Rattle.linear.specs.Linear.{isLevel}

@@ -6,7 +6,7 @@ use borrow.Author.Tests.{not-true, not-false}
 use Rattle.words.specs.First.{first}
 use Rattle.quantizer.specs.Pair.{isPair}
 use Rattle.state.specs.Range.{inRange}
-use Rattle.frame.specs.Header.{isEdition, isCount}
+use Rattle.frame.specs.Header.{isEdition}
 use Rattle.levels.proofs.asked_reply.Statement.{statement}
 use Rattle.levels.proofs.asked_reply.Tie as tie
 

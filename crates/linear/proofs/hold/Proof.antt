@@ -1,8 +1,6 @@
 -- `linear::hold` meets its contract, row by row.
-use mathlib.Core.Path.{_≡_, sym, ap, _∙_}
-use lib.IntN.{ℤ}
-use lib.Signed.{ltZ}
-use Rattle.linear.specs.Linear.{lowest, highest, held}
+use mathlib.Core.Path.{_∙_}
+use Rattle.linear.specs.Linear.{held}
 use Rattle.linear.proofs.Signs.{same}
 use Rattle.linear.proofs.hold.Statement.{statement}
 use Rattle.linear.proofs.hold.Tie as tie

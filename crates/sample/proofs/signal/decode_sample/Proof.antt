@@ -1,6 +1,5 @@
 -- `sample::signal::decode_sample` meets its contract.
 use borrow.Author.Needs.{needs}
-use mathlib.Core.Path.{_∙_}
 use Rattle.linear.proofs.Signs.{same}
 use Rattle.sample.specs.Signal.{sampledOf}
 use Rattle.sample.proofs.signal.decode_sample.Statement.{statement}
