@@ -1,8 +1,10 @@
 // Each call is made on what a line's fields say, and its answer is said behind the line.
-use crate::fields::number_in;
+use crate::fields::octet_at;
 use crate::fields::octets_in;
 use crate::fields::part;
 use crate::forms::fits;
+use crate::linear::answer_decode_linear;
+use crate::linear::answer_encode_linear;
 use crate::saying::say;
 use crate::saying::say_number;
 use crate::saying::say_octets;
@@ -50,8 +52,16 @@ fn answer_call(number: u64, line: &[u8]) -> bool {
         answer_encode(number, line);
         return true;
     }
+    if same(word, b"encode_linear") {
+        answer_encode_linear(number, line);
+        return true;
+    }
     if same(word, b"decode") {
         answer_decode(number, line);
+        return true;
+    }
+    if same(word, b"decode_linear") {
+        answer_decode_linear(number, line);
         return true;
     }
     if same(word, b"drop") {
@@ -170,9 +180,4 @@ fn answer_level(number: u64, line: &[u8]) {
     say_number(g711::expand(octet, law) as u64);
     say_number(g711::above(octet, law) as u64);
     say_number(g711::below(octet, law) as u64);
-}
-
-// The number that the field was seen to be
-fn octet_at(line: &[u8], k: usize) -> u8 {
-    (number_in(part(line, k, b' ')) % 256) as u8
 }

@@ -70,6 +70,11 @@ fn grown(value: u64, i: usize, digit: u8) -> u64 {
     NO_NUMBER
 }
 
+// The octet that the k-th field was seen to be
+pub fn octet_at(line: &[u8], k: usize) -> u8 {
+    (number_in(part(line, k, b' ')) % 256) as u8
+}
+
 // Pairs of hexadecimal digits in lower case, or - for none
 pub fn are_octets(field: &[u8]) -> bool {
     if field.len() < 2 {

@@ -4,6 +4,7 @@ use crate::fields::has_part;
 use crate::fields::number_in;
 use crate::fields::part;
 use crate::readers::is_reader;
+use crate::samples::are_samples;
 use crate::saying::say;
 use crate::saying::say_wrong_field;
 use crate::states::is_state;
@@ -33,7 +34,7 @@ fn field_at(k: usize) -> u64 {
     std::num::wrapping_add_u64(k as u64, 2)
 }
 
-// s: a state; r: a reader; w: a writer; n: an octet's value; l: a law; else octets
+// s: a state; r: a reader; w: a writer; n: an octet's value; l: a law; i: linear samples; else octets
 fn is_of(form: u8, field: &[u8]) -> bool {
     match form {
         b's' => is_state(field),
@@ -41,6 +42,7 @@ fn is_of(form: u8, field: &[u8]) -> bool {
         b'w' => is_writer(field),
         b'n' => number_in(field) <= 255,
         b'l' => number_in(field) <= 1,
+        b'i' => are_samples(field),
         _ => are_octets(field),
     }
 }

@@ -1,6 +1,7 @@
 // The words of encode and decode: LAW WIDTH CORE [SAMPLES [EDITION]], and LAW; of sequences both have LAW WIDTH CORE.
-use crate::kinds::law_at;
 use crate::kinds::number;
+use crate::law::MU;
+use crate::law::law_at;
 use crate::program::Program;
 use crate::words::after;
 use crate::words::number_at;
@@ -16,6 +17,7 @@ use quantizer::pair::is_pair;
 pub struct Coding {
     pub good: bool,
     pub at: usize,
+    // MU, A or LINEAR
     pub law: u8,
     pub width: u8,
     pub core: u8,
@@ -37,7 +39,7 @@ pub fn usual() -> Coding {
     Coding {
         good: false,
         at: 0,
-        law: 0,
+        law: MU,
         width: 0,
         core: LEAST_CORE,
         samples: USUAL_SAMPLES,
@@ -48,9 +50,9 @@ pub fn usual() -> Coding {
 pub fn read_law(program: Program, at: usize) -> Coding {
     let law = law_at(program, at);
     Coding {
-        good: law <= 1,
+        good: law.good,
         at: after(at),
-        law,
+        law: law.value,
         ..usual()
     }
 }

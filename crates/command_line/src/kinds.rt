@@ -1,9 +1,8 @@
-// A word that has to be of a kind: a file's name, a law, a number, or no word at all. Says where it is missing or another.
+// A word that has to be of a kind: a file's name, a number, or no word at all. Says where it is missing or another.
 use crate::program::Program;
 use crate::words::Number;
 use crate::words::is_name;
 use crate::words::is_there;
-use crate::words::is_word;
 use crate::words::number_at;
 use crate::wrong::missing;
 use crate::wrong::unknown;
@@ -23,22 +22,6 @@ pub fn is_file(program: Program, at: usize) -> bool {
         );
     }
     good
-}
-
-// 0 for mu, 1 for a, and 2 for another word
-pub fn law_at(program: Program, at: usize) -> u8 {
-    if !is_there(at) {
-        missing(program, b"LAW");
-        return 2;
-    }
-    if is_word(at, b"mu") {
-        return 0;
-    }
-    if is_word(at, b"a") {
-        return 1;
-    }
-    wrong(program, b"no law: ", at);
-    2
 }
 
 pub fn number(program: Program, at: usize, name: &[u8]) -> Number {

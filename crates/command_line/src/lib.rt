@@ -5,6 +5,7 @@ pub mod coding;
 pub mod cutting;
 mod ends;
 mod kinds;
+pub mod law;
 mod options;
 pub mod pages;
 pub mod program;

@@ -79,7 +79,8 @@ decoder still follows the encoder: the core bits alone decide its state.
   parchfennel inspect                           frames in, a table and totals out;
                                                 the number is - in edition 1
 
-  LAW       mu or a
+  LAW       mu or a, or linear: signed samples of 16 bits from -8192 to 8191, the
+            least significant octet first
   WIDTH     bits a sample, 2 to 5, each of them 8 kbit/s
   CORE      bits of these that are never dropped, 2 to 4
   SAMPLES   samples in a frame, a multiple of 8 from 8 to 320 (160, which is
@@ -105,8 +106,8 @@ air is full, at 16 kbit/s:
 
 Status:
   0   done
-  1   a frame was refused, the stream ended inside a frame, or reading or writing
-      failed; standard error says where; what was written before stays
+  1   a frame was refused, the stream ended inside a frame or a sample, or reading
+      or writing failed; standard error says where; what was written before stays
   2   wrong words; nothing was read or written
 ",
     )
@@ -161,7 +162,7 @@ fn with_usage_of_parchfennel(line: Line) -> Line {
            parchfennel [-v] [-states FILE] decode LAW [IN [OUT]]
            parchfennel inspect [IN [OUT]]
            parchfennel --help | --version
-LAW is mu or a; WIDTH is 2 to 5; CORE is 2 to 4, not above WIDTH; SAMPLES is a multiple of 8, 8 to 320; EDITION is 1 or 2
+LAW is mu, a or linear; WIDTH is 2 to 5; CORE is 2 to 4, not above WIDTH; SAMPLES is a multiple of 8, 8 to 320; EDITION is 1 or 2
 ",
     )
 }

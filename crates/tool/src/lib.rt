@@ -2,7 +2,8 @@
 // library that answers one.
 //
 // What the words ask is the crate `command_line`. Files are opened (files.rt, list.rt) and read as the crate `streams` does it,
-// and one loop goes over the stream (work.rt, stream.rt), with what each command makes of a piece in a file of its own.
+// and one loop goes over the stream (work.rt, stream.rt), with what each command makes of a piece in a file of its own. How speech
+// stands in a stream is in speech.rt.
 mod decoding;
 mod dropping;
 mod encoding;
@@ -10,6 +11,7 @@ mod files;
 mod inspecting;
 mod list;
 mod report;
+mod speech;
 mod states;
 mod stream;
 mod work;

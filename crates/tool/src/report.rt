@@ -33,6 +33,18 @@ pub fn refuse_number(frame: u64, octet: u64, found: u8, due: u8) {
         .write(STDERR_FILENO);
 }
 
+// A linear sample that no encoder takes: its place in the stream, and its value
+pub fn refuse_sample(frame: u64, octet: u64, place: u64, sample: i16) {
+    refused(frame, octet)
+        .number(number_of(Reply::Sample) as u64)
+        .text(b": sample ")
+        .number(place)
+        .text(b" is ")
+        .sample(sample)
+        .text(b", not from -8192 to 8191\n")
+        .write(STDERR_FILENO);
+}
+
 // Any other reply than 0: the row of the table of replies
 pub fn refuse(frame: u64, octet: u64, reply: Reply) {
     refused(frame, octet)
@@ -61,8 +73,18 @@ pub fn say_cut(frame: u64, octet: u64, there: usize) {
     );
 }
 
-// By how many samples the last frame was filled up
+// The stream ends behind the first octet of a sample
+pub fn say_half(frame: u64, octet: u64) {
+    placed(b"", frame, octet)
+        .text(b"the stream ends inside a sample\n")
+        .write(STDERR_FILENO);
+}
+
+// By how many samples the last frame was filled up, where it was
 pub fn say_filled(frame: u64, octet: u64, samples: usize) {
+    if samples == 0 {
+        return;
+    }
     let line = placed(b"note: ", frame, octet);
     say_count(
         line.text(b"filled up with silence; samples added: "),

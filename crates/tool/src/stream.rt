@@ -1,9 +1,12 @@
 // The input in whole pieces: so many samples, or a frame as long as its header says.
 ghost use Rattle.io.specs.Counts.{Counts};
 use crate::report::say_cut;
-use crate::report::say_filled;
+use crate::report::say_half;
+use crate::speech::octet_count;
+use crate::speech::whole_samples;
 use command_line::Command;
 use command_line::Task;
+use command_line::coding::Coding;
 use command_line::program::Program;
 use frame::header::FEWEST;
 use frame::header::GROUP;
@@ -18,9 +21,17 @@ use streams::reading::Source;
 use streams::reading::read_part;
 use text::within;
 
+// How many octets of the buffer there are, whether nothing went wrong, and by how many samples they were filled up. None, and
+// good, is the end of the stream.
+pub struct Piece {
+    pub count: usize,
+    pub good: bool,
+    pub added: usize,
+}
+
 // What the command takes at once, at the start of the buffer: a frame's samples, or a frame. Of samples that lack, to a
 // whole group, the buffer has to hold silence.
-pub fn next_piece(task: Task, fd: i32, buf: &mut [u8], frame: u64, octet: u64) -> Read
+pub fn next_piece(task: Task, fd: i32, buf: &mut [u8], frame: u64, octet: u64) -> Piece
     ensures { λ r. ⌜ Counts (r .count) (now (buf .exit)) ⌝ }
 {
     let input = Source {
@@ -30,25 +41,46 @@ pub fn next_piece(task: Task, fd: i32, buf: &mut [u8], frame: u64, octet: u64) -
     };
     let coding = task.coding;
     let command = task.command;
-    match command {
-        Command::Encode => next_samples(input, buf, coding.samples, frame, octet),
-        _ => next_frame(input, buf, frame, octet),
+    if let Command::Encode = command {
+        return next_samples(input, buf, coding, frame, octet);
+    }
+    let read = next_frame(input, buf, frame, octet);
+    Piece {
+        count: read.count,
+        good: read.good,
+        added: 0,
     }
 }
 
-fn next_samples(input: Source, buf: &mut [u8], samples: usize, frame: u64, octet: u64) -> Read
+// A stream that ends inside a sample is said.
+fn next_samples(input: Source, buf: &mut [u8], coding: Coding, frame: u64, octet: u64) -> Piece
     ensures { λ r. ⌜ Counts (r .count) (now (buf .exit)) ⌝ }
 {
-    let got = read_part(input, buf, 0, samples);
+    let law = coding.law;
+    let got = read_part(input, buf, 0, octet_count(law, coding.samples));
     let n = got.count;
-    let lacking = (GROUP - n % GROUP) % GROUP;
-    if (n == 0) | (lacking == 0) | !got.good {
-        return got;
+    if (n == 0) | !got.good {
+        return Piece {
+            count: n,
+            good: got.good,
+            added: 0,
+        };
     }
-    say_filled(frame, octet, lacking);
-    Read {
-        count: within(std::num::wrapping_add_usize(n, lacking), buf),
+    let samples = whole_samples(law, n);
+    if octet_count(law, samples) != n {
+        say_half(frame, octet);
+        return Piece {
+            count: 0,
+            good: false,
+            added: 0,
+        };
+    }
+    let lacking = (GROUP - samples % GROUP) % GROUP;
+    let filled = octet_count(law, std::num::wrapping_add_usize(samples, lacking));
+    Piece {
+        count: within(filled, buf),
         good: true,
+        added: lacking,
     }
 }
 

@@ -4,7 +4,7 @@ use crate::decoding::state_at;
 use crate::dropping::dropped;
 use crate::dropping::width_of;
 use crate::encoding::encoded;
-use crate::encoding::silence;
+use crate::encoding::say_off_scale;
 use crate::files;
 use crate::files::Files;
 use crate::inspecting;
@@ -12,6 +12,8 @@ use crate::inspecting::inspected;
 use crate::list::read_list;
 use crate::report::refuse;
 use crate::report::refuse_number;
+use crate::report::say_filled;
+use crate::speech::silence;
 use crate::states;
 use crate::stream::next_piece;
 use command_line::Command;
@@ -106,23 +108,25 @@ fn run_all(task: Task, files: Files, widths: &[u8], from: Turn) -> Turn {
 
 fn next(task: Task, files: Files, widths: &[u8], turn: Turn) -> Turn {
     let coding = task.coding;
-    let mut piece = silence(coding.law);
-    let found = next_piece(task, files.input, &mut piece, turn.frame, turn.octet);
-    let n = found.count;
-    if (n == 0) | !found.good {
-        return stopped(turn, found.good);
+    let mut buf = silence(coding.law);
+    let piece = next_piece(task, files.input, &mut buf, turn.frame, turn.octet);
+    let n = piece.count;
+    if (n == 0) | !piece.good {
+        return stopped(turn, piece.good);
     }
-    let made = make(task, widths, turn, &piece[..n]);
+    let made = make(task, widths, turn, &buf[..n]);
     let reply = made.reply;
     if !is_done(reply) {
-        say_refused(turn, made, &piece[..n]);
+        say_refused(turn, made, &buf[..n]);
         return stopped(turn, false);
     }
+    // Not before the call, since no frame that is refused is filled up
+    say_filled(turn.frame, turn.octet, piece.added);
     if !put(task, files, turn.frame, made) {
         return unwritten(turn);
     }
     let state = made.state;
-    passed(turn, state, &piece[..n])
+    passed(turn, state, &buf[..n])
 }
 
 // A refused call hands back the state that it met, so the due number is there.
@@ -132,6 +136,7 @@ fn say_refused(turn: Turn, made: Made, piece: &[u8]) {
     let header = read_header(piece);
     match reply {
         Reply::Number => refuse_number(turn.frame, turn.octet, header.number, state.number),
+        Reply::Sample => say_off_scale(turn.frame, turn.octet, piece),
         _ => refuse(turn.frame, turn.octet, reply),
     }
 }
