@@ -44,7 +44,7 @@ fn written_page(program: Program, help: bool) -> bool {
         return write_help(program);
     }
     let line = named(program).text(
-        b" 0.5.0
+        b" 0.6.0
 proved with rattle-kit-5b logic 064da1ca440f63e7
 ",
     );
@@ -63,9 +63,9 @@ fn write_help_of_parchfennel() -> bool {
         STDOUT_FILENO,
         b"parchfennel: the embedded ADPCM of Recommendation G.727 in a pipe
 
-Speech in G.711 (64 kbit/s) becomes frames of 40, 32, 24 or 16 kbit/s, and frames
-become speech. The lower bits of a frame may be thrown away on the way, and the
-decoder still follows the encoder: the core bits alone decide its state.
+Speech, in G.711 or in linear samples, becomes frames of 40, 32, 24 or 16 kbit/s,
+and frames become speech. The lower bits of a frame may be thrown away on the way,
+and the decoder still follows the encoder: the core bits alone decide its state.
 
   parchfennel encode LAW WIDTH CORE [SAMPLES [EDITION]]
                                                 speech in, frames out

@@ -10,7 +10,6 @@ ghost use Rattle.levels.specs.Inner.{Encodable, LevelsAll, EncodesFrame};
 use frame::header::Header;
 use frame::header::due_length;
 use g711::expand;
-use levels::EncodeAnswer;
 use levels::asked_reply;
 use levels::blank_levels;
 use levels::due_header;
@@ -21,6 +20,12 @@ use replies::is_done;
 use replies::is_law;
 use state::State;
 
+pub struct EncodeAnswer {
+    pub reply: Reply,
+    pub octets: usize,
+    pub state: State,
+}
+
 pub fn encode(
     s: State,
     law: u8,
@@ -29,7 +34,7 @@ pub fn encode(
     samples: &[u8],
     out: &mut [u8],
 ) -> EncodeAnswer
-    ensures { λ r. ⌜ Encodes (pcm law) s edition width (now (samples .entry)) (now (out .entry)) (now (out .exit)) r ⌝ }
+    ensures { λ r. ⌜ Encodes (pcm law) s edition width (now (samples .entry)) (now (out .entry)) (now (out .exit)) (r .reply) (r .octets) (r .state) ⌝ }
 {
     let reply = encode_reply(s, law, edition, width, samples.len(), out.len());
     if !is_done(reply) {

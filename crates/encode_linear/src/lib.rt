@@ -9,7 +9,6 @@ ghost use Rattle.levels.specs.Encode.{areTaken, levelsOf, encodeNumber, Encodes
 ghost use Rattle.levels.specs.Inner.{Encodable, LevelsAll, EncodesFrame};
 use frame::header::Header;
 use frame::header::due_length;
-use levels::EncodeAnswer;
 use levels::asked_reply;
 use levels::blank_levels;
 use levels::due_header;
@@ -21,18 +20,24 @@ use replies::Reply;
 use replies::is_done;
 use state::State;
 
+pub struct EncodeLinearAnswer {
+    pub reply: Reply,
+    pub octets: usize,
+    pub state: State,
+}
+
 pub fn encode_linear(
     s: State,
     edition: u8,
     width: u8,
     samples: &[i16],
     out: &mut [u8],
-) -> EncodeAnswer
-    ensures { λ r. ⌜ Encodes linear s edition width (now (samples .entry)) (now (out .entry)) (now (out .exit)) r ⌝ }
+) -> EncodeLinearAnswer
+    ensures { λ r. ⌜ Encodes linear s edition width (now (samples .entry)) (now (out .entry)) (now (out .exit)) (r .reply) (r .octets) (r .state) ⌝ }
 {
     let reply = encode_reply(s, edition, width, samples, out.len());
     if !is_done(reply) {
-        return EncodeAnswer {
+        return EncodeLinearAnswer {
             reply,
             octets: 0,
             state: s,
@@ -40,7 +45,7 @@ pub fn encode_linear(
     }
     let h = due_header(s, edition, width, samples.len());
     let next = encode_into(s, h, samples, out);
-    EncodeAnswer {
+    EncodeLinearAnswer {
         reply,
         octets: due_length(h),
         state: next,

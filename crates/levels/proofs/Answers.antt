@@ -11,7 +11,6 @@ use Rattle.replies.specs.declared.Reply.{Reply}
 use Rattle.replies.specs.Reply.{numberOf}
 use Rattle.replies.proofs.Answers.{refusal, success, counted}
 use Rattle.replies.proofs.Equal.{reply-equal}
-use Rattle.levels.specs.declared.EncodeAnswer.{EncodeAnswer}
 use Rattle.levels.specs.Levels.{dueHeader, encodedFrame}
 use Rattle.levels.specs.Encode.{areTaken, levelsOf, encodeReply, encodeOctets, encodeState, encodeOut, Encodes}
 use Rattle.levels.specs.Inner.{EncodesFrame}
@@ -20,18 +19,18 @@ use Rattle.levels.proofs.Samples.{levels-length}
 
 module _ (end : End) (s : State) (e width : ℕ) (samples : List (Sample end)) (before : List ℕ) where
   module _ {reply : Reply} (number : numberOf reply ≡ encodeReply end s e width samples before) where
-    pub encodes-refused : (encodeReply end s e width samples before ≡ 0 → ⊥) → Encodes end s e width samples before before (record { reply = reply; octets = 0; state = s })
+    pub encodes-refused : (encodeReply end s e width samples before ≡ 0 → ⊥) → Encodes end s e width samples before before reply 0 s
     unfolding encodeOctets encodeState encodeOut
-    encodes-refused refused = record { number = number; octets = refusal _ _ _ refused; state = refusal _ _ _ refused; out = refusal _ _ _ refused }
+    encodes-refused refused = record { number = number; octets-are = refusal _ _ _ refused; state = refusal _ _ _ refused; out = refusal _ _ _ refused }
 
     pub encodes-done : {after : List ℕ} {octets : ℕ} {next : State} → encodeReply end s e width samples before ≡ 0 → octets ≡ dueLength (dueHeader s e width (length samples))
         → EncodesFrame s (dueHeader s e width (length samples)) (levelsOf end samples) before after next
-        → Encodes end s e width samples before after (record { reply = reply; octets = octets; state = next })
+        → Encodes end s e width samples before after reply octets next
     unfolding encodeOctets encodeState encodeOut encodedFrame
     encodes-done done count coded =
         record {
           number = number;
-          octets = count ∙ success _ _ _ done;
+          octets-are = count ∙ success _ _ _ done;
           state = coded .state ∙ success _ _ _ done;
           out = coded .out ∙ rw (levels-length end samples) (success _ _ _ done);
         }
@@ -42,9 +41,8 @@ module _ (end : End) (s : State) (e width : ℕ) (samples : List (Sample end)) (
   encode-room =
       counted _ _ _ (λ done. encode-says (isEnd end) s e width (length samples) (areTaken end samples) (length before) done .2 .space)
 
-  -- two conforming answers are equal, and so are the exit buffers
-  pub encode-equal : (after after′ : List ℕ) (a b : EncodeAnswer) → Encodes end s e width samples before after a → Encodes end s e width samples before after′ b
-      → (a ≡ b) × (after ≡ after′)
-  encode-equal after after′ a b p q =
-      let reply = reply-equal (a .reply) (b .reply) (p .number ∙ sym (q .number)) in
-      (λ i. record { reply = reply i; octets = (p .octets ∙ sym (q .octets)) i; state = (p .state ∙ sym (q .state)) i }, p .out ∙ sym (q .out))
+  -- two conforming answers are equal in every part, and so are the exit buffers
+  pub encode-equal : {after after′ : List ℕ} {reply reply′ : Reply} {n n′ : ℕ} {t t′ : State} → Encodes end s e width samples before after reply n t
+      → Encodes end s e width samples before after′ reply′ n′ t′ → (reply ≡ reply′) × (n ≡ n′) × (t ≡ t′) × (after ≡ after′)
+  encode-equal {reply = reply} {reply′ = reply′} p q =
+      (reply-equal reply reply′ (p .number ∙ sym (q .number)), p .octets-are ∙ sym (q .octets-are), p .state ∙ sym (q .state), p .out ∙ sym (q .out))

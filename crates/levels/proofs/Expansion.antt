@@ -13,8 +13,8 @@ use Rattle.linear.specs.Linear.{signed}
 use Rattle.linear.proofs.Levels.{word-level, word-again}
 use Rattle.state.specs.declared.State.{State}
 use Rattle.sample.specs.End.{End, pcm, linear, Sample, isEnd}
+use Rattle.replies.specs.declared.Reply.{Reply}
 use Rattle.replies.specs.Reply.{isLaw}
-use Rattle.levels.specs.declared.EncodeAnswer.{EncodeAnswer}
 use Rattle.levels.specs.Levels.{encodedCodewords}
 use Rattle.levels.specs.Encode.{areTaken, levelsOf, encodeReply, encodeOctets, encodeState, encodeOut, Encodes}
 use Rattle.levels.proofs.Samples.{levels-length, pcm-taken}
@@ -34,12 +34,12 @@ module _ (s : State) (e width : ℕ) (before : List ℕ) {a b : End} {xs : List 
   same-reply = rw (same .known, same .taken, sized)
 
   -- an answer that conforms for the one conforms for the other
-  pub same-answer : {after : List ℕ} {r : EncodeAnswer} → Encodes a s e width xs before after r → Encodes b s e width ys before after r
+  pub same-answer : {after : List ℕ} {reply : Reply} {n : ℕ} {t : State} → Encodes a s e width xs before after reply n t → Encodes b s e width ys before after reply n t
   unfolding encodeOctets encodeState encodeOut
   same-answer p =
       record {
         number = p .number ∙ same-reply;
-        octets = p .octets ∙ rw (same-reply, sized);
+        octets-are = p .octets-are ∙ rw (same-reply, sized);
         state = p .state ∙ rw (same-reply, same .levels);
         out = p .out ∙ rw (same-reply, same .levels, sized);
       }
@@ -63,9 +63,9 @@ module _ (LAW : ℕ) where
     expanded-same = record { known = sym known; taken = expanded-taken octets ∙ sym (pcm-taken LAW octets); levels = expanded-levels octets }
 
     -- the linear call of the expanded octets answers as the G.711 call of the octets
-    pub expanded-answer : (s : State) (e width : ℕ) (before after : List ℕ) (r : EncodeAnswer) → Encodes linear s e width (map (expanded LAW) octets) before after r
-        → Encodes (pcm LAW) s e width octets before after r
-    expanded-answer s e width before after r p = same-answer s e width before expanded-same p
+    pub expanded-answer : (s : State) (e width : ℕ) (before after : List ℕ) (reply : Reply) (n : ℕ) (t : State) → Encodes linear s e width (map (expanded LAW) octets) before after reply n t
+        → Encodes (pcm LAW) s e width octets before after reply n t
+    expanded-answer s e width before after reply n t p = same-answer s e width before expanded-same p
 
     -- of its codewords too, one by one
     pub expanded-codewords : (s : State) (width : ℕ)

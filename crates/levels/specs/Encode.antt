@@ -16,8 +16,8 @@ use Rattle.state.specs.Range.{inRange}
 use Rattle.sample.specs.End.{End, Sample, isEnd, isTaken, levelOf}
 use Rattle.frame.specs.declared.header.Header.{Header}
 use Rattle.frame.specs.Header.{isEdition, dueLength, isCount}
+use Rattle.replies.specs.declared.Reply.{Reply}
 use Rattle.replies.specs.Reply.{numberOf}
-use Rattle.levels.specs.declared.EncodeAnswer.{EncodeAnswer}
 use Rattle.levels.specs.Levels.{dueHeader, encodedState, encodedFrame}
 
 -- the rows, of what is asked for n samples and then of what is lent: 4, 9, 5, 1, 2, and 11, 3. Of G.711 no 11 comes, of the linear end no 9
@@ -59,8 +59,9 @@ module _ (end : End) (s : State) (e width : ℕ) (samples : List (Sample end)) (
   unfoldable pub encodeOut : List ℕ
   encodeOut = pick (eqb encodeReply 0) (encodedFrame s e width (levelsOf end samples) ++ drop (dueLength (dueHeader s e width (length samples))) before) before
 
-  pub record Encodes (after : List ℕ) (r : EncodeAnswer) : Type 0 where
-    pub number : numberOf (r .reply) ≡ encodeReply
-    pub octets : r .octets ≡ encodeOctets
-    pub state : r .state ≡ encodeState
+  -- a call's reply, its count and its state
+  pub record Encodes (after : List ℕ) (reply : Reply) (octets : ℕ) (next : State) : Type 0 where
+    pub number : numberOf reply ≡ encodeReply
+    pub octets-are : octets ≡ encodeOctets
+    pub state : next ≡ encodeState
     pub out : after ≡ encodeOut

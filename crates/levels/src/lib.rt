@@ -27,12 +27,6 @@ use state::in_range;
 use state::memory::Memory;
 use state::moved_on;
 
-pub struct EncodeAnswer {
-    pub reply: Reply,
-    pub octets: usize,
-    pub state: State,
-}
-
 // Of what is asked: the state, the end, the edition, the width and the count
 pub fn asked_reply(known: bool, s: State, edition: u8, width: u8, n: usize) -> Reply
     ensures { λ r. ⌜ numberOf r ≡ first (askedRows known s edition width n) ⌝ }

@@ -32,7 +32,8 @@ pub fn sample(sr: u16) -> i16
     hold(read_signed(sr))
 }
 
-fn read_signed(word: u16) -> i16
+// The number that a word of 16 bits is in two's complement
+pub fn read_signed(word: u16) -> i16
     ensures { λ r. ⌜ r ≡ signed 16 word ⌝ }
 {
     if word < 32768 {

@@ -1,23 +1,14 @@
--- -1 less a signed number of 16 bits: n where it is -(n + 1), and -(n + 1) where it is n. So a negative one is cast by its distance from -1, and comes back.
+-- A negative number is cast by its distance from -1, which is n of -(n + 1).
 use mathlib.Core.Bool.{true, false}
 use mathlib.Core.Path.{_≡_, refl, ap, subst}
-use Prim.Native.Nat.{ℕ, zero, suc, _<_}
+use Prim.Native.Nat.{ℕ, suc, _<_}
 use native.Mathlib.Omega.{arith}
 use lib.Dec.{T}
 use lib.IntN.{ℤ, pos, negsuc, _-ℤ_}
 use lib.Signed.{ltZ}
 use mir.Syntax.{w16}
-use mir.Val.{SFits, toZ, ofZ}
-use mir.ValLaws.{toZ-ofZ}
+use mir.Val.{SFits}
 use borrow.Author.Tests.{ltb-true, le-ltb}
-
--- from the 16 bits of a number back to it
-pub same : (x : ℤ) → SFits w16 x → toZ w16 (ofZ w16 x) ≡ x
-same x fits = toZ-ofZ w16 x fits
-
-pub back : (n : ℕ) → negsuc 0 -ℤ pos n ≡ negsuc n
-back zero = refl
-back (suc n) = ap negsuc (omega arith)
 
 pub away : (n : ℕ) → negsuc 0 -ℤ negsuc n ≡ pos n
 away n = rw (le-ltb (suc n) 1 (omega arith)) (ap pos (omega arith))

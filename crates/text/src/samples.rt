@@ -6,6 +6,7 @@ ghost use lib.ListN.{length, take};
 ghost use Rattle.io.specs.Counts.{Counts};
 use crate::Line;
 use crate::least;
+use linear::read_signed;
 
 // Which octet of a pair comes first: the more significant one, or the other
 pub enum Order {
@@ -20,7 +21,7 @@ pub fn samples_in(octets: &[u8], order: Order, into: &mut [i16]) -> usize
     let n = least(octets.len() / 2, into.len());
     let mut i = 0;
     while i < n {
-        into[i] = sample_of(ordered(order, joined(octets[2 * i], octets[2 * i + 1])));
+        into[i] = read_signed(ordered(order, joined(octets[2 * i], octets[2 * i + 1])));
         i += 1;
     }
     i
@@ -51,13 +52,6 @@ fn ordered(order: Order, word: u16) -> u16 {
         Order::HighFirst => word,
         Order::LowFirst => word % 256 * 256 + word / 256,
     }
-}
-
-fn sample_of(word: u16) -> i16 {
-    if word < 32768 {
-        return word as i16;
-    }
-    -1 - ((65535 - word) as i16)
 }
 
 fn word_of(sample: i16) -> u16 {

@@ -2,13 +2,13 @@
 use borrow.Author.Needs.{needs}
 use native.Mathlib.Omega.{arith}
 use lib.ListN.{length-take}
-use Rattle.encode.proofs.Answers.{encode-room}
+use Rattle.encode.proofs.Answers.{answers-room}
 use Rattle.drop_planes.proofs.Answers.{drop-room}
 use Rattle.example.proofs.send.Statement.{statement}
 use Rattle.example.proofs.send.Tie as tie
 
 array-share-prefix-radio : tie.Need-array-share-prefix-radio
-array-share-prefix-radio c = rw (c .before .encode .ensures .octets, c .radio2 .given) (encode-room _ _ _ _ _ _)
+array-share-prefix-radio c = rw (c .radio2 .given) (answers-room _ _ _ _ _ _ _ (c .before .encode .result) (c .before .encode .ensures))
 
 slice-aggregate-drop-planes : tie.Need-slice-aggregate-drop-planes
 slice-aggregate-drop-planes c =

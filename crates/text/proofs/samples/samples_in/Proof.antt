@@ -39,8 +39,8 @@ joined-requires c κs = tt
 ordered-requires : tie.Need-ordered-requires Inv-loop μ-loop
 ordered-requires c κs = tt
 
-sample-of-requires : tie.Need-sample-of-requires Inv-loop μ-loop
-sample-of-requires c κs = tt
+read-signed-requires : tie.Need-read-signed-requires Inv-loop μ-loop
+read-signed-requires c κs = tt
 
 mul-t20 : tie.Need-mul-t20 Inv-loop μ-loop
 mul-t20 c = omega arith
@@ -78,7 +78,7 @@ samples-in-spec =
     shared-slice-read-joined-2
     joined-requires
     ordered-requires
-    sample-of-requires
+    read-signed-requires
     mul-t20
     slice-set-from-into
     add-i

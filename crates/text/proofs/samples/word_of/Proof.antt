@@ -3,7 +3,8 @@ use borrow.Author.Needs.{needs}
 use native.Mathlib.Omega.{arith}
 use mir.Syntax.{w16}
 use mir.ValLaws.{toZ-pos}
-use Rattle.text.proofs.Signs.{same, Below, AtLeast, below, at-least}
+use Rattle.linear.proofs.Signs.{same}
+use Rattle.text.proofs.Signs.{Below, AtLeast, below, at-least}
 use Rattle.text.proofs.samples.word_of.Statement.{statement}
 use Rattle.text.proofs.samples.word_of.Tie as tie
 
