@@ -9,7 +9,7 @@ mod program;
 mod speech;
 mod table;
 
-use job::{Job, DECODE, JOBS};
+use job::{Job, JOBS};
 use measure::Measure;
 use program::Program;
 use std::path::Path;
@@ -56,8 +56,8 @@ fn bench(words: &[String]) -> Result<(), String> {
 
 fn row(job: &Job, measure: Measure, programs: &[Program], speech: &[u8]) -> Result<(), String> {
     let able: Vec<&Program> = programs.iter().filter(|p| job.is_for(p.title)).collect();
-    let encoded = measure.of(&able, &job.encode(), |_| speech.to_vec())?;
-    let decoded = measure.of(&able, DECODE, |place| encoded[place].octets.clone())?;
+    let encoded = measure.of(&able, &job.encode(), |_| job.input(speech))?;
+    let decoded = measure.of(&able, &job.decode(), |place| encoded[place].octets.clone())?;
     for (verb, measured) in [("encode", &encoded), ("decode", &decoded)] {
         let title = job.title(verb);
         if measured[0].octets != measured[1].octets {
