@@ -1,5 +1,5 @@
 pub mod Fitness
 pub mod Decoding
-pub mod Hearing
+pub mod Listening
 pub mod Answers
 pub mod Ends

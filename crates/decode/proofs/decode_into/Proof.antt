@@ -13,13 +13,13 @@ use Rattle.frame.specs.Header.{mostGroups, sampleCount}
 use Rattle.frame.specs.Read.{codewords}
 use Rattle.frame.proofs.Codewords.{read-length, read-at, read-short}
 use Rattle.codewords.proofs.Decoding.{decoding-none}
-use Rattle.codewords.proofs.Hearing.{Hearing, hearing-done}
+use Rattle.codewords.proofs.Listening.{Listening, listening-done}
 use Rattle.decode.proofs.Playing.{playing-more}
 use Rattle.decode.proofs.decode_into.Statement.{statement}
 use Rattle.decode.proofs.decode_into.Tie as tie
 
 abbrev Inv-loop : tie.InvT-loop
-Inv-loop s law h planes out₀ n g memory₀ disagreements₀ k₀ out memory disagreements k = Hearing (pcm law) (s .core) (h .width) (s .memory) (codewords (h .width) (h .groups) planes) out₀ k memory disagreements out
+Inv-loop s law h planes out₀ n g memory₀ disagreements₀ k₀ out memory disagreements k = Listening (pcm law) (s .core) (h .width) (s .memory) (codewords (h .width) (h .groups) planes) out₀ k memory disagreements out
 
 abbrev μ-loop : tie.MeasureT-loop
 μ-loop s law h planes out₀ n g memory₀ disagreements₀ k₀ out memory disagreements k = n - k
@@ -96,7 +96,7 @@ returns c =
     let at = c .before .before .before .before .before .before .before .before .before in
     let all = rw (c .before .before .before .before .before .before .sample-count .ensures) at (c .before .before .loop-test .left) in
     rw (c .moved-on .ensures, c .before .number-after .ensures)
-    (hearing-done _ _ _ _ _ (c .before .before .before .loop .inv) (rw (read-length (at .args .h .width) (at .args .h .groups) (now (at .args .planes))) all))
+    (listening-done _ _ _ _ _ (c .before .before .before .loop .inv) (rw (read-length (at .args .h .width) (at .args .h .groups) (now (at .args .planes))) all))
 
 pub decode-into-spec : {M : Type 1} → statement M
 decode-into-spec =

@@ -13,13 +13,13 @@ use Rattle.frame.specs.Header.{sampleCount}
 use Rattle.frame.specs.Read.{codewords}
 use Rattle.frame.proofs.Codewords.{read-length, read-at, read-short}
 use Rattle.codewords.proofs.Decoding.{decoding-none}
-use Rattle.codewords.proofs.Hearing.{Hearing, hearing-done}
+use Rattle.codewords.proofs.Listening.{Listening, listening-done}
 use Rattle.decode_linear.proofs.Sampling.{sampling-more}
 use Rattle.decode_linear.proofs.decode_into.Statement.{statement}
 use Rattle.decode_linear.proofs.decode_into.Tie as tie
 
 abbrev Inv-loop : tie.InvT-loop
-Inv-loop s h planes out₀ n g memory₀ k₀ out memory k = Hearing linear (s .core) (h .width) (s .memory) (codewords (h .width) (h .groups) planes) out₀ k memory 0 out
+Inv-loop s h planes out₀ n g memory₀ k₀ out memory k = Listening linear (s .core) (h .width) (s .memory) (codewords (h .width) (h .groups) planes) out₀ k memory 0 out
 
 abbrev μ-loop : tie.MeasureT-loop
 μ-loop s h planes out₀ n g memory₀ k₀ out memory k = n - k
@@ -79,7 +79,7 @@ returns c =
     let at = c .before .before .before .before .before .before .before .before in
     let all = rw (c .before .before .before .before .before .before .sample-count .ensures) at (c .before .before .loop-test .left) in
     rw (c .moved-on .ensures, c .before .number-after .ensures)
-    (hearing-done _ _ _ _ _ (c .before .before .before .loop .inv) (rw (read-length (at .args .h .width) (at .args .h .groups) (now (at .args .planes))) all))
+    (listening-done _ _ _ _ _ (c .before .before .before .loop .inv) (rw (read-length (at .args .h .width) (at .args .h .groups) (now (at .args .planes))) all))
 
 pub decode-into-spec : {M : Type 1} → statement M
 decode-into-spec =

@@ -14,13 +14,13 @@ use Rattle.codewords.specs.Inner.{DecodesAll}
 use Rattle.codewords.proofs.Decoding.{Decoding, decoding-done}
 
 module _ (end : End) (core width : ℕ) where
-  abbrev pub Hearing : Memory → List ℕ → List (Sample end) → ℕ → Memory → ℕ → List (Sample end) → Type 0
-  Hearing m cws before = Decoding core width (heardOf end core width) (countOf end core width) m cws before
+  abbrev pub Listening : Memory → List ℕ → List (Sample end) → ℕ → Memory → ℕ → List (Sample end) → Type 0
+  Listening m cws before = Decoding core width (heardOf end core width) (countOf end core width) m cws before
 
 module _ (end : End) (s : State) (h : Header) (cws : List ℕ) (before : List (Sample end)) where
-  pub hearing-done : {k : ℕ} {t : Memory} {sum : ℕ} {out : List (Sample end)} → Hearing end (s .core) (h .width) (s .memory) cws before k t sum out → length cws ≤ k
+  pub listening-done : {k : ℕ} {t : Memory} {sum : ℕ} {out : List (Sample end)} → Listening end (s .core) (h .width) (s .memory) cws before k t sum out → length cws ≤ k
       → DecodesAll end s h cws before out sum (movedOn s t (numberAfter (h .edition) (s .number)))
   unfolding decodedState decodedMemory decodedSamples decodedDisagreements
-  hearing-done c all =
+  listening-done c all =
       let d = decoding-done _ _ _ _ _ _ _ c all in
       record { state = rw (d .memory); disagreements-are = d .sum-is; out = d .out-is }
