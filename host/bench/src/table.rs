@@ -22,7 +22,7 @@ fn line(job: &str, programs: &[&Program], each: &[f64]) -> String {
     let ratios = (programs.iter().zip(each).skip(1))
         .map(|(p, cost)| format!("tool : {} = {:.2}", p.title, each[0] / cost));
     let all: Vec<String> = costs.chain(ratios).collect();
-    format!("{job:<14} {}", all.join("   "))
+    format!("{job:<20} {}", all.join("   "))
 }
 
 #[cfg(test)]
