@@ -1,7 +1,6 @@
 // Each call is made on what a line's fields say, and its answer is said behind the line.
 use crate::fields::{octet_at, octets_in, part};
 use crate::forms::fits;
-use crate::frames::answer_read_frame;
 use crate::linear::{answer_decode_linear, answer_encode_linear};
 use crate::saying::{say, say_number, say_octets, say_reply, say_state, say_wrong};
 use crate::states::state_in;
@@ -56,10 +55,6 @@ fn answer_call(number: u64, line: &[u8]) -> bool {
     }
     if same(word, b"drop") {
         answer_drop(number, line);
-        return true;
-    }
-    if same(word, b"read_frame") {
-        answer_read_frame(number, line);
         return true;
     }
     if same(word, b"level") {
@@ -143,7 +138,6 @@ fn decode_line(line: &[u8], frame: &[u8], out: &mut [u8]) {
     let next = r.state;
     say_reply(reply, r.octets);
     say_number(r.disagreements as u64);
-    say_number(r.due as u64);
     say_octets(out);
     say_state(next);
 }
@@ -163,7 +157,6 @@ fn drop_line(line: &[u8], frame: &[u8], out: &mut [u8]) {
     let r = drop_planes(frame, octet_at(line, 2), out);
     let reply = r.reply;
     say_reply(reply, r.octets);
-    say_number(r.due as u64);
     say_octets(out);
 }
 

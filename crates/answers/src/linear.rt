@@ -48,7 +48,6 @@ fn decode_line(line: &[u8], frame: &[u8], out: &mut [i16]) {
     let next = r.state;
     say_reply(reply, r.samples);
     say_number(r.disagreements as u64);
-    say_number(r.due as u64);
     say_samples(out);
     say_state(next);
 }

@@ -2,7 +2,6 @@
 mod answering;
 mod fields;
 mod forms;
-mod frames;
 mod input;
 mod linear;
 mod places;

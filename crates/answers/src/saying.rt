@@ -18,10 +18,9 @@ pub fn say_number(n: u64) {
     io::print_decimal(STDOUT_FILENO, n);
 }
 
-// Its number, and the count that the answer has next
-pub fn say_reply(reply: Reply, count: usize) {
+pub fn say_reply(reply: Reply, octets: usize) {
     say_number(number_of(reply) as u64);
-    say_number(count as u64);
+    say_number(octets as u64);
 }
 
 pub fn say_state(s: State) {

@@ -4,7 +4,6 @@ use mathlib.Core.List.{List, [], ◌∷◌}
 use mathlib.Core.Path.{◌≡◌, refl, sym, ◌∙◌}
 use Prim.Native.Nat.{ℕ, ◌≤◌}
 use native.Mathlib.Nat.{zero-add}
-use native.Mathlib.Omega.{arith}
 use lib.Dec.{eqb}
 use lib.IntN.{ℤ}
 use lib.ListN.{length}
@@ -17,39 +16,35 @@ use Rattle.sample.specs.End.{End, linear, Sample, is_end}
 use Rattle.frame.specs.Header.{header_of, sample_count}
 use Rattle.frame.specs.Read.{body, received}
 use Rattle.frame.proofs.Codewords.{read_length}
-use Rattle.read_frame.specs.ReadFrame.{due_with}
-use Rattle.read_frame.proofs.Due.{due_none}
 use Rattle.replies.specs.declared.Reply.{Reply}
 use Rattle.replies.specs.Reply.{number_of}
 use Rattle.replies.proofs.Answers.{refusal, success, counted}
 use Rattle.replies.proofs.Equal.{reply_equal}
-use Rattle.codewords.specs.Decode.{decode_reply, decode_count, decoded_disagreements, decode_disagreements, decode_due, decode_state, decode_out, Decodes}
+use Rattle.codewords.specs.Decode.{decode_reply, decode_count, decoded_disagreements, decode_disagreements, decode_state, decode_out, Decodes}
 use Rattle.codewords.specs.Inner.{DecodesAll}
 use Rattle.codewords.proofs.Fitness.{decode_says}
 
 module _ (end : End) (s : State) (frame : List ℕ) (before : List (Sample end)) where
   module _ {reply : Reply} (number : number_of reply ≡ decode_reply end s frame before) where
-    pub decodes_refused : {due : ℕ} → (decode_reply end s frame before ≡ 0 → ⊥) → due ≡ due_with (number_of reply) (header_of frame) → Decodes end s frame before before reply 0 0 due s
-    unfolding decode_count decode_disagreements decode_due decode_state decode_out
-    decodes_refused refused due =
+    pub decodes_refused : (decode_reply end s frame before ≡ 0 → ⊥) → Decodes end s frame before before reply 0 0 s
+    unfolding decode_count decode_disagreements decode_state decode_out
+    decodes_refused refused =
         record {
           number = number;
           count_is = refusal _ _ _ refused;
           disagreements_are = refusal _ _ _ refused;
-          due_is = due ∙ rw number;
           state = refusal _ _ _ refused;
           out = refusal _ _ _ refused;
         }
 
     pub decodes_done : {after : List (Sample end)} {count disagreements : ℕ} {next : State} → decode_reply end s frame before ≡ 0 → count ≡ sample_count (header_of frame)
-        → DecodesAll end s (header_of frame) (received frame) before after disagreements next → Decodes end s frame before after reply count disagreements 0 next
-    unfolding received decode_count decode_disagreements decode_due decode_state decode_out
+        → DecodesAll end s (header_of frame) (received frame) before after disagreements next → Decodes end s frame before after reply count disagreements next
+    unfolding received decode_count decode_disagreements decode_state decode_out
     decodes_done done count d =
         record {
           number = number;
           count_is = count ∙ success _ _ _ done;
           disagreements_are = d.disagreements_are ∙ success _ _ _ done;
-          due_is = sym (due_none _ _ (λ e. absurd (omega (arith, done, e))));
           state = d.state ∙ success _ _ _ done;
           out = d.out ∙ rw (read_length (header_of frame).width (header_of frame).groups (body frame)) (success _ _ _ done);
         }
@@ -60,17 +55,11 @@ module _ (end : End) (s : State) (frame : List ℕ) (before : List (Sample end))
   decode_room = counted _ _ _ (λ e. (decode_says (is_end end) s (header_of frame) (length frame) (length before) e).1.space)
 
   -- two conforming answers are equal in every part, and so are the exit buffers
-  pub decode_equal : {after after' : List (Sample end)} {reply reply' : Reply} {n n' k k' d d' : ℕ} {t t' : State}
-      → Decodes end s frame before after reply n k d t → Decodes end s frame before after' reply' n' k' d' t'
-      → (reply ≡ reply') × (n ≡ n') × (k ≡ k') × (d ≡ d') × (t ≡ t') × (after ≡ after')
-  decode_equal {reply = reply} {reply' = reply'} p q = (
-    reply_equal reply reply' (p.number ∙ sym q.number),
-    p.count_is ∙ sym q.count_is,
-    p.disagreements_are ∙ sym q.disagreements_are,
-    p.due_is ∙ sym q.due_is,
-    p.state ∙ sym q.state,
-    p.out ∙ sym q.out,
-  )
+  pub decode_equal : {after after' : List (Sample end)} {reply reply' : Reply} {n n' k k' : ℕ} {t t' : State}
+      → Decodes end s frame before after reply n k t → Decodes end s frame before after' reply' n' k' t'
+      → (reply ≡ reply') × (n ≡ n') × (k ≡ k') × (t ≡ t') × (after ≡ after')
+  decode_equal {reply = reply} {reply' = reply'} p q =
+      (reply_equal reply reply' (p.number ∙ sym q.number), p.count_is ∙ sym q.count_is, p.disagreements_are ∙ sym q.disagreements_are, p.state ∙ sym q.state, p.out ∙ sym q.out)
 
 -- nothing disagrees at a linear end, whatever comes
 none_disagrees : (core width : ℕ) (m : Memory) (codewords : List ℕ) → decoded_disagreements linear core width m codewords ≡ 0

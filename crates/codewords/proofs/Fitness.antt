@@ -10,8 +10,8 @@ use Rattle.state.specs.Range.{in_range}
 use Rattle.state.proofs.Ranges.{range_says, range_of}
 use Rattle.frame.specs.declared.header.Header.{Header}
 use Rattle.frame.specs.Header.{sample_count}
-use Rattle.read_frame.specs.Rows.{frame_rows}
-use Rattle.read_frame.proofs.Sounds.{sound_says, sound_none}
+use Rattle.frame.specs.Rows.{frame_rows}
+use Rattle.frame.proofs.Sounds.{sound_says, sound_none}
 use Rattle.codewords.specs.Decode.{decode_rows, decode_number}
 use Rattle.codewords.specs.Inner.{Decodable}
 

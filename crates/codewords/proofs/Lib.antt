@@ -3,4 +3,3 @@ pub mod Decoding
 pub mod Listening
 pub mod Answers
 pub mod Ends
-pub mod Fitting

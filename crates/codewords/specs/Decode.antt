@@ -13,8 +13,7 @@ use Rattle.sample.specs.End.{End, Sample, is_end, heard_of, count_of}
 use Rattle.frame.specs.declared.header.Header.{Header}
 use Rattle.frame.specs.Header.{header_of, sample_count, is_due}
 use Rattle.frame.specs.Read.{received}
-use Rattle.read_frame.specs.Rows.{frame_rows}
-use Rattle.read_frame.specs.ReadFrame.{due_with}
+use Rattle.frame.specs.Rows.{frame_rows}
 use Rattle.replies.specs.declared.Reply.{Reply}
 use Rattle.replies.specs.Reply.{number_of}
 use Rattle.codewords.specs.Codewords.{decoded_state}
@@ -50,21 +49,16 @@ module _ (end : End) (s : State) (frame : List ℕ) (before : List (Sample end))
   unfoldable pub decode_disagreements : ℕ
   decode_disagreements = pick (eqb decode_reply 0) (decoded_disagreements end s.core (header_of frame).width s.memory (received frame)) 0
 
-  -- the length that was due
-  unfoldable pub decode_due : ℕ
-  decode_due = due_with decode_reply (header_of frame)
-
   unfoldable pub decode_state : State
   decode_state = pick (eqb decode_reply 0) (decoded_state s (header_of frame) (received frame)) s
 
   unfoldable pub decode_out : List (Sample end)
   decode_out = pick (eqb decode_reply 0) (decoded_samples end s.core (header_of frame).width s.memory (received frame) ++ drop (sample_count (header_of frame)) before) before
 
-  -- a call's reply, its two counts, the length that was due, and its state
-  pub record Decodes (after : List (Sample end)) (reply : Reply) (count disagreements due : ℕ) (next : State) : Type 0 where
+  -- a call's reply, its two counts and its state
+  pub record Decodes (after : List (Sample end)) (reply : Reply) (count disagreements : ℕ) (next : State) : Type 0 where
     pub number : number_of reply ≡ decode_reply
     pub count_is : count ≡ decode_count
     pub disagreements_are : disagreements ≡ decode_disagreements
-    pub due_is : due ≡ decode_due
     pub state : next ≡ decode_state
     pub out : after ≡ decode_out

@@ -3,8 +3,7 @@ ghost use Rattle.std.specs.Prelude.{◌≡◌};
 ghost use Rattle.replies.specs.Reply.{number_of};
 ghost use Rattle.codewords.specs.Decode.{decode_number};
 
-use frame::header::{Header, is_due, sample_count};
-use read_frame::frame_reply;
+use frame::header::{Header, frame_reply, is_due, sample_count};
 use replies::{Reply, is_done};
 use state::{State, in_range};
 

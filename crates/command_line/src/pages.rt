@@ -41,7 +41,7 @@ fn written_page(program: Program, help: bool) -> bool {
         return write_help(program);
     }
     let line = named(program).text(
-        b" 0.7.0
+        b" 0.6.0
 proved with rattle-kit-5b logic 064da1ca440f63e7
 ",
     );

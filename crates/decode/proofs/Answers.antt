@@ -12,7 +12,7 @@ use Rattle.decode.specs.declared.DecodeAnswer.{DecodeAnswer}
 module _ (s : State) (LAW : ℕ) (frame before after : List ℕ) where
   -- what decode promises of its answer
   abbrev pub Answers : DecodeAnswer → Type 0
-  Answers r = Decodes (pcm LAW) s frame before after r.reply r.octets r.disagreements r.due r.state
+  Answers r = Decodes (pcm LAW) s frame before after r.reply r.octets r.disagreements r.state
 
 pub answers_room : (s : State) (LAW : ℕ) (frame : List ℕ) (before after : List ℕ) (r : DecodeAnswer) → Answers s LAW frame before after r → r.octets ≤ length before
 answers_room s LAW frame before after r p = rw p.count_is (decode_room (pcm LAW) s frame before)
@@ -21,4 +21,4 @@ pub answers_equal : (s : State) (LAW : ℕ) (frame before after after' : List �
     → (a ≡ b) × (after ≡ after')
 answers_equal s LAW frame before after after' a b p q =
     let same = decode_equal (pcm LAW) s frame before p q in
-    (λ i. record { reply = same.0 i; octets = same.1 i; disagreements = same.2 i; due = same.3 i; state = same.4 i }, same.5)
+    (λ i. record { reply = same.0 i; octets = same.1 i; disagreements = same.2 i; state = same.3 i }, same.4)

@@ -11,7 +11,6 @@ ghost use Rattle.codewords.specs.Inner.{DecodesAll};
 use codewords::decode_reply;
 use frame::header::{Header, header_length, number_after, read_header, sample_count};
 use frame::planes::codeword_at;
-use read_frame::due_with;
 use replies::{Reply, is_done, is_law};
 use sample::pcm::decode_byte;
 use state::{State, moved_on};
@@ -21,7 +20,6 @@ pub struct DecodeAnswer {
     pub reply: Reply,
     pub octets: usize,
     pub disagreements: usize,
-    pub due: usize,
     pub state: State,
 }
 
@@ -33,7 +31,7 @@ pub struct DecodedFrame {
 }
 
 pub fn decode(s: State, law: u8, frame: &[u8], out: &mut [u8]) -> DecodeAnswer
-    ensures { Decodes (pcm law) s frame.now out.old out.new result.reply result.octets result.disagreements result.due result.state }
+    ensures { Decodes (pcm law) s frame.now out.old out.new result.reply result.octets result.disagreements result.state }
 {
     let h = read_header(frame);
     let reply = decode_reply(is_law(law), s, h, frame.len(), out.len());
@@ -42,7 +40,6 @@ pub fn decode(s: State, law: u8, frame: &[u8], out: &mut [u8]) -> DecodeAnswer
             reply,
             octets: 0,
             disagreements: 0,
-            due: due_with(reply, h),
             state: s,
         };
     }
@@ -53,7 +50,6 @@ pub fn decode(s: State, law: u8, frame: &[u8], out: &mut [u8]) -> DecodeAnswer
         reply,
         octets: sample_count(h),
         disagreements: d.disagreements,
-        due: 0,
         state: next,
     }
 }

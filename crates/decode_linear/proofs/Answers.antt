@@ -13,7 +13,7 @@ use Rattle.decode_linear.specs.declared.DecodeLinearAnswer.{DecodeLinearAnswer}
 module _ (s : State) (frame : List ℕ) (before after : List ℤ) where
   -- what decode_linear promises of its answer
   abbrev pub Answers : DecodeLinearAnswer → Type 0
-  Answers r = Decodes linear s frame before after r.reply r.samples r.disagreements r.due r.state
+  Answers r = Decodes linear s frame before after r.reply r.samples r.disagreements r.state
 
 pub answers_room : (s : State) (frame : List ℕ) (before after : List ℤ) (r : DecodeLinearAnswer) → Answers s frame before after r → r.samples ≤ length before
 answers_room s frame before after r p = rw p.count_is (decode_room linear s frame before)
@@ -22,4 +22,4 @@ pub answers_equal : (s : State) (frame : List ℕ) (before after after' : List �
     → (a ≡ b) × (after ≡ after')
 answers_equal s frame before after after' a b p q =
     let same = decode_equal linear s frame before p q in
-    (λ i. record { reply = same.0 i; samples = same.1 i; disagreements = same.2 i; due = same.3 i; state = same.4 i }, same.5)
+    (λ i. record { reply = same.0 i; samples = same.1 i; disagreements = same.2 i; state = same.3 i }, same.4)

@@ -11,7 +11,6 @@ ghost use Rattle.codewords.specs.Inner.{DecodesAll};
 use codewords::decode_reply;
 use frame::header::{Header, header_length, number_after, read_header, sample_count};
 use frame::planes::codeword_at;
-use read_frame::due_with;
 use replies::{Reply, is_done};
 use sample::signal::decode_sample;
 use state::{State, moved_on};
@@ -21,12 +20,11 @@ pub struct DecodeLinearAnswer {
     pub reply: Reply,
     pub samples: usize,
     pub disagreements: usize,
-    pub due: usize,
     pub state: State,
 }
 
 pub fn decode_linear(s: State, frame: &[u8], out: &mut [i16]) -> DecodeLinearAnswer
-    ensures { Decodes linear s frame.now out.old out.new result.reply result.samples result.disagreements result.due result.state }
+    ensures { Decodes linear s frame.now out.old out.new result.reply result.samples result.disagreements result.state }
 {
     let h = read_header(frame);
     let reply = decode_reply(true, s, h, frame.len(), out.len());
@@ -35,7 +33,6 @@ pub fn decode_linear(s: State, frame: &[u8], out: &mut [i16]) -> DecodeLinearAns
             reply,
             samples: 0,
             disagreements: 0,
-            due: due_with(reply, h),
             state: s,
         };
     }
@@ -45,7 +42,6 @@ pub fn decode_linear(s: State, frame: &[u8], out: &mut [i16]) -> DecodeLinearAns
         reply,
         samples: sample_count(h),
         disagreements: 0,
-        due: 0,
         state: next,
     }
 }

@@ -20,4 +20,4 @@ module _ (frame : List ℕ) (w : ℕ) (before : List ℕ) where
   pub drop_equal : (after after' : List ℕ) (a b : DropAnswer) → Drops frame w before after a → Drops frame w before after' b → (a ≡ b) × (after ≡ after')
   drop_equal after after' a b p q =
       let reply = reply_equal a.reply b.reply (p.number ∙ sym q.number) in
-      (λ i. record { reply = reply i; octets = (p.octets ∙ sym q.octets) i; due = (p.due ∙ sym q.due) i }, p.out ∙ sym q.out)
+      (λ i. record { reply = reply i; octets = (p.octets ∙ sym q.octets) i }, p.out ∙ sym q.out)

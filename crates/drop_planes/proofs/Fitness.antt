@@ -8,8 +8,8 @@ use Rattle.words.proofs.Within.{within_says, within_of}
 use Rattle.frame.specs.declared.header.Header.{Header}
 use Rattle.frame.specs.Header.{due_length}
 use Rattle.frame.specs.Read.{narrowed}
-use Rattle.read_frame.specs.Rows.{frame_rows}
-use Rattle.read_frame.proofs.Sounds.{sound_says, sound_none}
+use Rattle.frame.specs.Rows.{frame_rows}
+use Rattle.frame.proofs.Sounds.{sound_says, sound_none}
 use Rattle.drop_planes.specs.Drop.{drop_rows, drop_number}
 use Rattle.drop_planes.specs.Inner.{Droppable}
 

@@ -1,3 +1,2 @@
 pub mod Fitness
 pub mod Answers
-pub mod Fitting

@@ -6,8 +6,7 @@ use Rattle.words.specs.Within.{within}
 use Rattle.frame.specs.declared.header.Header.{Header}
 use Rattle.frame.specs.Header.{header_of, due_length}
 use Rattle.frame.specs.Read.{narrowed, thinned}
-use Rattle.read_frame.specs.Rows.{frame_rows}
-use Rattle.read_frame.specs.ReadFrame.{due_with}
+use Rattle.frame.specs.Rows.{frame_rows}
 use Rattle.replies.specs.Reply.{number_of}
 use Rattle.drop_planes.specs.declared.DropAnswer.{DropAnswer}
 
@@ -33,15 +32,10 @@ module _ (frame : List ℕ) (w : ℕ) (before : List ℕ) where
   unfoldable pub drop_octets : ℕ
   drop_octets = pick (eqb drop_reply 0) (due_length (narrowed w (header_of frame))) 0
 
-  -- the length that was due
-  unfoldable pub drop_due : ℕ
-  drop_due = due_with drop_reply (header_of frame)
-
   unfoldable pub drop_out : List ℕ
   drop_out = pick (eqb drop_reply 0) (thinned w frame ++ drop (due_length (narrowed w (header_of frame))) before) before
 
   pub record Drops (after : List ℕ) (r : DropAnswer) : Type 0 where
     pub number : number_of r.reply ≡ drop_reply
     pub octets : r.octets ≡ drop_octets
-    pub due : r.due ≡ drop_due
     pub out : after ≡ drop_out

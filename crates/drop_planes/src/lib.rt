@@ -3,16 +3,14 @@ ghost use Rattle.std.specs.Prelude.{◌≡◌};
 ghost use Rattle.replies.specs.Reply.{number_of};
 ghost use Rattle.drop_planes.specs.Drop.{is_target, drop_number, Drops};
 
-use frame::header::{Header, due_length, read_header};
+use frame::header::{Header, due_length, frame_reply, read_header};
 use frame::whole::{narrow, thin_frame};
-use read_frame::{due_with, frame_reply};
 use replies::{Reply, is_done};
 
 #[derive(Drop)]
 pub struct DropAnswer {
     pub reply: Reply,
     pub octets: usize,
-    pub due: usize,
 }
 
 pub fn drop_planes(frame: &[u8], width: u8, out: &mut [u8]) -> DropAnswer
@@ -21,17 +19,12 @@ pub fn drop_planes(frame: &[u8], width: u8, out: &mut [u8]) -> DropAnswer
     let h = read_header(frame);
     let reply = drop_reply(h, frame.len(), width, out.len());
     if !is_done(reply) {
-        return DropAnswer {
-            reply,
-            octets: 0,
-            due: due_with(reply, h),
-        };
+        return DropAnswer { reply, octets: 0 };
     }
     thin_frame(frame, h, width, out);
     DropAnswer {
         reply,
         octets: due_length(narrow(h, width)),
-        due: 0,
     }
 }
 

@@ -5,7 +5,7 @@ pub mod Headers
 pub mod Due
 pub mod Sizes
 pub mod Laying
-pub mod Counts
+pub mod Sounds
 pub mod Codewords
 pub mod Bits
 pub mod Return

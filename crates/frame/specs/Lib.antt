@@ -1,5 +1,6 @@
 pub mod Header
 pub mod Planes
 pub mod Read
+pub mod Rows
 pub mod Sound
 pub mod Shifted

@@ -1,5 +1,5 @@
--- What it says of a header, and of a frame of n octets with it, that no row applies, as facts that a proof can use; proofs/Sounds.antt of
--- read_frame shows that the two are the same.
+-- What it says of a header, and of a frame of n octets with it, that no row applies, as facts that a proof can use; proofs/Sounds.antt shows
+-- that the two are the same.
 use Rattle.std.specs.Prelude.{◌≡◌, ℕ, ◌≤◌}
 use Rattle.words.specs.Within.{Within}
 use Rattle.quantizer.specs.Pair.{Pair}

@@ -1,8 +1,14 @@
-// The header as a value: read once from a frame, how long its frame is, and which of its fields are within the frame's limits
-// (docs/RULES.md, "The frame").
+// The header as a value: read once from a frame, how long its frame is, and what is wrong with it by itself or with the
+// frame's length (docs/RULES.md, "The frame" and rows 5, 1, 2 and 6 of its replies).
 ghost use Rattle.std.specs.Prelude.{◌≡◌, get_or};
+ghost use Rattle.words.specs.First.{first};
+ghost use Rattle.replies.specs.Reply.{number_of};
 ghost use Rattle.frame.specs.Header.{header_length, head, borne, header_of, due_length, sample_count, is_edition, is_numbered, is_groups, is_count, is_due, number_after};
+ghost use Rattle.frame.specs.Rows.{header_rows, frame_rows};
 ghost use Rattle.frame.specs.Sound.{SoundHeader};
+
+use quantizer::pair::is_pair;
+use replies::{Reply, is_done};
 
 // The limits of specs/Header.antt
 pub const PLAIN: u8 = 1;
@@ -134,4 +140,37 @@ pub fn number_after(e: u8, n: u8) -> u8
         return 0;
     }
     n + 1
+}
+
+// The first row that applies to the header alone
+pub fn header_reply(h: Header) -> Reply
+    ensures { number_of result ≡ first (header_rows h) }
+{
+    if !is_edition(h.edition) {
+        return Reply::Header;
+    }
+    if !is_pair(h.width, h.core) {
+        return Reply::Pair;
+    }
+    if !is_groups(h.edition, h.groups) {
+        return Reply::Count;
+    }
+    Reply::Done
+}
+
+// The first row that applies to a frame of so many octets with this header
+pub fn frame_reply(h: Header, length: usize) -> Reply
+    ensures { number_of result ≡ first (frame_rows h length) }
+{
+    if length < FEWEST {
+        return Reply::Header;
+    }
+    let reply = header_reply(h);
+    if !is_done(reply) {
+        return reply;
+    }
+    if length != due_length(h) {
+        return Reply::Length;
+    }
+    Reply::Done
 }

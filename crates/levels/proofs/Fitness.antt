@@ -13,7 +13,7 @@ use Rattle.state.proofs.Ranges.{range_says, range_of}
 use Rattle.frame.specs.declared.header.Header.{Header}
 use Rattle.frame.specs.Header.{plain, numbered, group, most_groups}
 use Rattle.frame.proofs.Sizes.{groups_most}
-use Rattle.frame.proofs.Counts.{Counted, count_says, count_of}
+use Rattle.frame.proofs.Sounds.{Counted, count_says, count_of}
 use Rattle.levels.specs.Levels.{due_header}
 use Rattle.levels.specs.Encode.{asked_rows, lent_rows, encode_number}
 use Rattle.levels.specs.Inner.{Encodable}

@@ -18,7 +18,7 @@ pub fn decoded(coding: Coding, s: State, octets: &[u8]) -> Made {
     let answer = decode(s, coding.law, octets, &mut out);
     let reply = answer.reply;
     let state = answer.state;
-    answered(reply, answer.due, out, answer.octets, state)
+    answered(reply, out, answer.octets, state)
 }
 
 fn decoded_linear(s: State, octets: &[u8]) -> Made {
@@ -29,8 +29,7 @@ fn decoded_linear(s: State, octets: &[u8]) -> Made {
     let state = answer.state;
     // All that there is room for: the frame's are the first of them, and these alone are counted.
     octets_of(&samples, Order::LowFirst, &mut out);
-    let count = octet_count(LINEAR, answer.samples);
-    answered(reply, answer.due, out, count, state)
+    answered(reply, out, octet_count(LINEAR, answer.samples), state)
 }
 
 // Before the first frame the state is reset, to the core that its header has

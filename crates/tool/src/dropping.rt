@@ -9,7 +9,7 @@ pub fn dropped(width: u8, s: State, octets: &[u8]) -> Made {
     let mut out = io::buffer();
     let answer = drop_planes(octets, width, &mut out);
     let reply = answer.reply;
-    answered(reply, answer.due, out, answer.octets, s)
+    answered(reply, out, answer.octets, s)
 }
 
 // The width that the frame is to get: the one width or the list's, as it is or at most

@@ -10,9 +10,6 @@ use linear::is_level;
 use state::State;
 use text::samples::{Order, samples_in};
 
-// A frame's length is due, and encode takes samples.
-const NONE_DUE: usize = 0;
-
 pub fn encoded(coding: Coding, s: State, speech: &[u8]) -> Made {
     if coding.law == LINEAR {
         return encoded_linear(coding, s, speech);
@@ -28,7 +25,7 @@ pub fn encoded(coding: Coding, s: State, speech: &[u8]) -> Made {
     );
     let reply = answer.reply;
     let state = answer.state;
-    answered(reply, NONE_DUE, out, answer.octets, state)
+    answered(reply, out, answer.octets, state)
 }
 
 fn encoded_linear(coding: Coding, s: State, speech: &[u8]) -> Made {
@@ -38,7 +35,7 @@ fn encoded_linear(coding: Coding, s: State, speech: &[u8]) -> Made {
     let answer = encode_linear(s, coding.edition, coding.width, &samples[..n], &mut out);
     let reply = answer.reply;
     let state = answer.state;
-    answered(reply, NONE_DUE, out, answer.octets, state)
+    answered(reply, out, answer.octets, state)
 }
 
 // Says the sample that the call refused

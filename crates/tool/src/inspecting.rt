@@ -1,7 +1,6 @@
 // inspect: a heading, a line for each frame, and totals.
 use crate::work::{Made, Turn};
-use frame::header::{Header, is_numbered};
-use read_frame::read_frame;
+use frame::header::{Header, frame_reply, is_numbered, read_header};
 use state::State;
 use text::Line;
 
@@ -13,9 +12,8 @@ pub fn heading() -> Line {
 }
 
 pub fn inspected(frame: u64, s: State, octets: &[u8]) -> Made {
-    let answer = read_frame(octets);
-    let reply = answer.reply;
-    let header = answer.header;
+    let header = read_header(octets);
+    let reply = frame_reply(header, octets.len());
     let fields = Line::empty()
         .number(frame)
         .next(header.edition as u64)
@@ -27,7 +25,6 @@ pub fn inspected(frame: u64, s: State, octets: &[u8]) -> Made {
         .octet(b'\n');
     Made {
         reply,
-        due: answer.due,
         octets: line,
         state: s,
     }

@@ -43,21 +43,7 @@ pub fn refuse_sample(frame: u64, octet: u64, place: u64, sample: i16) {
         .write(STDERR_FILENO);
 }
 
-// A frame of another length than the due one: both are said. Only the stream's end makes one, since what is read is as the
-// header calls for.
-pub fn refuse_length(frame: u64, octet: u64, there: usize, due: usize) {
-    refused(frame, octet)
-        .number(number_of(Reply::Length) as u64)
-        .text(b": ")
-        .number(there as u64)
-        .text(b" octets where the header calls for ")
-        .number(due as u64)
-        .text(b"; the stream ends inside the frame\n")
-        .write(STDERR_FILENO);
-}
-
-// Any other reply than 0: the row of the table of replies. A row is found by its place, so those that no run meets stand here
-// too.
+// Any other reply than 0: the row of the table of replies
 pub fn refuse(frame: u64, octet: u64, reply: Reply) {
     refused(frame, octet)
         .row(
@@ -76,6 +62,15 @@ pub fn refuse(frame: u64, octet: u64, reply: Reply) {
         .write(STDERR_FILENO);
 }
 
+// The stream ends inside a frame, of which there are so many octets
+pub fn say_cut(frame: u64, octet: u64, there: usize) {
+    let line = placed(b"", frame, octet);
+    say_count(
+        line.text(b"the stream ends inside the frame; octets of it: "),
+        there,
+    );
+}
+
 // The stream ends behind the first octet of a sample
 pub fn say_half(frame: u64, octet: u64) {
     placed(b"", frame, octet)
@@ -88,9 +83,14 @@ pub fn say_filled(frame: u64, octet: u64, samples: usize) {
     if samples == 0 {
         return;
     }
-    placed(b"note: ", frame, octet)
-        .text(b"filled up with silence; samples added: ")
-        .number(samples as u64)
-        .octet(b'\n')
-        .write(STDERR_FILENO);
+    let line = placed(b"note: ", frame, octet);
+    say_count(
+        line.text(b"filled up with silence; samples added: "),
+        samples,
+    );
+}
+
+fn say_count(line: Line, count: usize) {
+    let n = count as u64;
+    line.number(n).octet(b'\n').write(STDERR_FILENO);
 }

@@ -1,13 +1,12 @@
-// The input in pieces: so many samples, or a frame as long as its header says. The last may be shorter.
+// The input in whole pieces: so many samples, or a frame as long as its header says.
 ghost use Rattle.io.specs.Counts.{IsPrefixLen};
 
-use crate::report::say_half;
+use crate::report::{say_cut, say_half};
 use crate::speech::{octet_count, whole_samples};
 use command_line::coding::Coding;
 use command_line::program::Program;
 use command_line::{Command, Task};
-use frame::header::{FEWEST, GROUP, Header, due_length, read_header};
-use read_frame::header_reply;
+use frame::header::{FEWEST, GROUP, Header, due_length, header_reply, read_header};
 use replies::is_done;
 use streams::reading::{Name, Read, Source, read_part};
 use text::within;
@@ -36,7 +35,7 @@ pub fn next_piece(task: Task, fd: i32, buf: &mut [u8], frame: u64, octet: u64) -
     if let Command::Encode = command {
         return next_samples(input, buf, coding, frame, octet);
     }
-    let read = next_frame(input, buf);
+    let read = next_frame(input, buf, frame, octet);
     Piece {
         count: read.count,
         good: read.good,
@@ -76,17 +75,26 @@ fn next_samples(input: Source, buf: &mut [u8], coding: Coding, frame: u64, octet
     }
 }
 
-// Where the stream ends inside the frame, what there is of it: to refuse that is the call's part.
-fn next_frame(input: Source, buf: &mut [u8]) -> Read
+// A stream that ends inside the frame is said.
+fn next_frame(input: Source, buf: &mut [u8], frame: u64, octet: u64) -> Read
     ensures { IsPrefixLen result.count buf.new }
 {
     let head = read_part(input, buf, 0, FEWEST);
     let n = head.count;
-    if (n < FEWEST) | !head.good {
+    if (n == 0) | !head.good {
         return head;
     }
     let due = octets_due(read_header(&buf[..n]));
-    read_part(input, buf, n, due)
+    let whole = read_part(input, buf, n, due);
+    let octets = whole.count;
+    if whole.good & (octets < due) {
+        say_cut(frame, octet, octets);
+        return Read {
+            count: 0,
+            good: false,
+        };
+    }
+    whole
 }
 
 // Of a header that is itself wrong nothing is read on: no call looks further

@@ -5,7 +5,7 @@ use crate::encoding::{encoded, say_off_scale};
 use crate::files::Files;
 use crate::inspecting::inspected;
 use crate::list::read_list;
-use crate::report::{refuse, refuse_length, refuse_number, say_filled};
+use crate::report::{refuse, refuse_number, say_filled};
 use crate::speech::silence;
 use crate::stream::next_piece;
 use crate::{files, inspecting, states};
@@ -16,22 +16,19 @@ use reset::reset;
 use state::State;
 use text::Line;
 
-// What a command makes of a piece: the call's reply and the due length that it reports, what is to be written, and the state
-// that the next piece meets
+// What a command makes of a piece: the call's answer, what is to be written, and the state that the next piece meets
 #[derive(Drop)]
 pub struct Made {
     pub reply: Reply,
-    pub due: usize,
     pub octets: Line,
     pub state: State,
 }
 
 // What a call answered, and has put into the buffer
-pub fn answered(reply: Reply, due: usize, out: [u8; 4096], count: usize, state: State) -> Made {
+pub fn answered(reply: Reply, out: [u8; 4096], count: usize, state: State) -> Made {
     let octets = Line { octets: out, count };
     Made {
         reply,
-        due,
         octets,
         state,
     }
@@ -130,7 +127,6 @@ fn say_refused(turn: Turn, made: Made, piece: &[u8]) {
     let state = made.state;
     let header = read_header(piece);
     match reply {
-        Reply::Length => refuse_length(turn.frame, turn.octet, piece.len(), made.due),
         Reply::Number => refuse_number(turn.frame, turn.octet, header.number, state.number),
         Reply::Sample => say_off_scale(turn.frame, turn.octet, piece),
         _ => refuse(turn.frame, turn.octet, reply),

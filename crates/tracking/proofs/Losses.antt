@@ -17,9 +17,8 @@ use Rattle.state.proofs.Ranges.{range_of, reset_in_range, reset_core, reset_numb
 use Rattle.sample.specs.End.{is_end}
 use Rattle.frame.specs.Header.{header_of, sample_count, is_due}
 use Rattle.frame.specs.Sound.{Sound}
-use Rattle.read_frame.proofs.Sounds.{sound_none}
-use Rattle.read_frame.proofs.Due.{due_none}
-use Rattle.codewords.specs.Decode.{decode_reply, decode_count, decode_disagreements, decode_due, decode_state, decode_out}
+use Rattle.frame.proofs.Sounds.{sound_none}
+use Rattle.codewords.specs.Decode.{decode_reply, decode_count, decode_disagreements, decode_state, decode_out}
 use Rattle.codewords.proofs.Fitness.{decode_number_of, decode_behind}
 use Rattle.tracking.specs.Calls.{Sending, Hearing, hear_reply, decoder_after}
 use Rattle.tracking.specs.History.{numbered_frames, is_numbered_frame, accepted, after_all, Brings, AllBehind, Refused, AllRefused}
@@ -54,16 +53,8 @@ module _ (t : State) (d : Hearing) (k : Hearable t d) where
 
 -- a refusal with 10 leaves all as it was
 refused : (t : State) (d : Hearing) → hear_reply t d ≡ 10 → Refused t d
-unfolding decode_count decode_disagreements decode_due decode_state decode_out
-refused t d number =
-    record {
-      number = number;
-      count = rw number;
-      disagreements = rw number;
-      due = due_none _ _ (λ e. absurd (omega (arith, number, e)));
-      state = rw number;
-      out = rw number;
-    }
+unfolding decode_count decode_disagreements decode_state decode_out
+refused t d number = record { number = number; count = rw number; disagreements = rw number; state = rw number; out = rw number }
 
 module _ {core n : ℕ} (t : State) (d : Hearing) (i : InRange t) (known : is_end d.end ≡ true) (b : Bearing core n d.frame) (e : core ≡ t.core) where
   hears : Hearable t d

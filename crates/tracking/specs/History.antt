@@ -6,7 +6,7 @@ use Rattle.lists.specs.Run.{last, total}
 use Rattle.state.specs.declared.State.{State}
 use Rattle.frame.specs.Header.{header_of, is_numbered}
 use Rattle.sample.specs.End.{is_end}
-use Rattle.codewords.specs.Decode.{decode_count, decode_disagreements, decode_due, decode_out}
+use Rattle.codewords.specs.Decode.{decode_count, decode_disagreements, decode_out}
 use Rattle.tracking.specs.Calls.{Sending, Station, Hearing, send_reply, written, encoder_after, hear_reply, decoder_after, arrived, Passed}
 
 -- whether a call writes an edition 2 frame, and the edition 2 frames that an encoder has written, each at its place from 0
@@ -55,7 +55,6 @@ pub record Refused (t : State) (d : Hearing) : Type 0 where
   pub number : hear_reply t d ≡ 10
   pub count : decode_count d.end t d.frame d.buffer ≡ 0
   pub disagreements : decode_disagreements d.end t d.frame d.buffer ≡ 0
-  pub due : decode_due d.end t d.frame d.buffer ≡ 0
   pub state : decoder_after t d ≡ t
   pub out : decode_out d.end t d.frame d.buffer ≡ d.buffer
 

@@ -1,6 +1,5 @@
--- The laws of every table of refusals: a 0 says that no row applies, and where none applies it is 0; two tables, one behind the other; and
--- which table a number comes from.
-use Rattle.std.proofs.Common.{◌≡◌, ℕ, Bool, true, false, not, ◌&&◌, T, eqb, ltb, List, [], ◌∷◌, ◌++◌, sym, refl, arith, ltb→lt, eq-eqb}
+-- The laws of every table of refusals: a 0 says that no row applies, and where none applies it is 0; two tables, one behind the other.
+use Rattle.std.proofs.Common.{◌≡◌, Bool, true, false, ◌&&◌, T, ltb, List, [], ◌∷◌, ◌++◌, refl, arith, ltb→lt}
 use Rattle.words.specs.First.{Row, first}
 use Rattle.words.proofs.Tests.{and_left, and_right}
 
@@ -47,35 +46,3 @@ pub first_behind : (rows more : List Row) → NoneApplies rows → first (rows +
 unfolding first
 first_behind [] more none = refl
 first_behind ((number, test) ∷ rows) more none = rw none.0 (first_behind rows more none.1)
-
--- no row bears the number n
-abbrev pub lacks : ℕ → List Row → Bool
-lacks n [] = true
-lacks n ((number, test) ∷ rows) = not (eqb number n) && lacks n rows
-
-module _ (n : ℕ) where
-  -- so a table that lacks it does not give it, unless it is the 0 of no row
-  another : (number : ℕ) (rows : List Row) → T (lacks n ((number, true) ∷ rows)) → number ≡ n → ⊥
-  another number rows l e = rw (eq-eqb number n e) at (and_left (not (eqb number n)) (lacks n rows) l)
-
-  not_given : (rows : List Row) → T (lacks n rows) → first rows ≡ n → n ≡ 0
-  unfolding first
-  not_given [] l e = sym e
-  not_given ((number, true) ∷ rows) l e = absurd (another number rows l e)
-  not_given ((number, false) ∷ rows) l e = not_given rows (and_right (not (eqb number n)) (lacks n rows) l) e
-
-  -- of two tables, one behind the other, a number that the first lacks comes from the second, past all rows of the first
-  pub first_past : (rows more : List Row) → T (lacks n rows) → first (rows ++ more) ≡ n → NoneApplies rows × (first more ≡ n)
-  unfolding first
-  first_past [] more l e = (tt, e)
-  first_past ((number, true) ∷ rows) more l e = absurd (another number rows l e)
-  first_past ((number, false) ∷ rows) more l e =
-      let past = first_past rows more (and_right (not (eqb number n)) (lacks n rows) l) e in
-      ((refl, past.0), past.1)
-
-  -- and one that the second lacks comes from the first
-  pub first_among : (rows more : List Row) → T (lacks n more) → (n ≡ 0 → ⊥) → first (rows ++ more) ≡ n → first rows ≡ n
-  unfolding first
-  first_among [] more l ne e = absurd (ne (not_given more l e))
-  first_among ((number, true) ∷ rows) more l ne e = e
-  first_among ((number, false) ∷ rows) more l ne e = first_among rows more l ne e

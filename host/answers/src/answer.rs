@@ -1,7 +1,7 @@
 //! The second codec's answers: to one call, and to a text of lines as the proved program gives them.
 
 use crate::call::{Call, Decode, DecodeLinear, Drop, Encode, EncodeLinear, Read, Write};
-use crate::fields::{write_header, write_octets, write_samples, write_state};
+use crate::fields::{write_octets, write_samples, write_state};
 use crate::text_fields::{write_reader, write_word, write_writer};
 use second::calls;
 use second::g711::{expand, one_down, one_up};
@@ -46,10 +46,6 @@ pub fn answer_to(call: &Call) -> String {
         Call::Decode(c) => to_decode(c),
         Call::DecodeLinear(c) => to_decode_linear(c),
         Call::Drop(c) => to_drop(c),
-        Call::ReadFrame(frame) => {
-            let a = calls::read_frame(frame);
-            format!("{} {} {}", a.number, a.due, write_header(&a.header))
-        }
         // EXPAND's level has 14 bits in two's complement.
         Call::Level(law, octet) => {
             let level = expand(*law, *octet).rem_euclid(16_384);
@@ -85,8 +81,8 @@ fn to_decode(c: &Decode) -> String {
     let a = calls::decode(c.state, c.law, &c.frame, &mut out);
     let (out, state) = (write_octets(&out), write_state(&a.state));
     format!(
-        "{} {} {} {} {out} {state}",
-        a.number, a.octets, a.disagreements, a.due
+        "{} {} {} {out} {state}",
+        a.number, a.octets, a.disagreements
     )
 }
 
@@ -95,16 +91,15 @@ fn to_decode_linear(c: &DecodeLinear) -> String {
     let a = calls::decode_linear(c.state, &c.frame, &mut out);
     let (out, state) = (write_samples(&out), write_state(&a.state));
     format!(
-        "{} {} {} {} {out} {state}",
-        a.number, a.samples, a.disagreements, a.due
+        "{} {} {} {out} {state}",
+        a.number, a.samples, a.disagreements
     )
 }
 
 fn to_drop(c: &Drop) -> String {
     let mut out = c.out.clone();
     let a = calls::drop_planes(&c.frame, c.width, &mut out);
-    let out = write_octets(&out);
-    format!("{} {} {} {out}", a.number, a.octets, a.due)
+    format!("{} {} {}", a.number, a.octets, write_octets(&out))
 }
 
 fn to_read(c: &Read) -> String {
@@ -135,22 +130,5 @@ mod tests {
         );
         assert!(answer(&asked) == due);
         assert_eq!(answer(""), "");
-    }
-
-    #[test]
-    fn the_due_length_stands_before_what_is_handed_back() {
-        for (asked, due) in [
-            ("read_frame aa01", "6 8 2,5,2,1,0"),
-            ("read_frame 520107ff", "0 0 1,2,2,1,0"),
-            ("drop aa01 2 ee", "6 0 8 ee"),
-            ("drop 520107ff 2 eeeeeeeeee", "0 4 0 520107ffee"),
-        ] {
-            assert_eq!(answer(asked), format!("{asked} = {due}\n"));
-        }
-        let state = "544,34816,0,0,0,0,0,0,0,0,0,0,0,32,32,32,32,32,32,32,32,0,0,0,2,7";
-        for (asked, out) in [("decode", "0 5201 -"), ("decode_linear", "5201 -")] {
-            let asked = format!("{asked} {state} {out}");
-            assert_eq!(answer(&asked), format!("{asked} = 6 0 0 4 - {state}\n"));
-        }
     }
 }

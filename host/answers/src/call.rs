@@ -1,6 +1,6 @@
 //! A call as a line has it: its word and its fields.
 
-use crate::fields::{number, octets, write_octets};
+use crate::fields::number;
 use crate::line::{Fields, Unread};
 use crate::text_fields::{reader, write_reader, write_writer, writer};
 use second::g711::Law;
@@ -17,8 +17,6 @@ pub enum Call {
     Decode(Decode),
     DecodeLinear(DecodeLinear),
     Drop(Drop),
-    /// Of a frame, or of any other octets.
-    ReadFrame(Vec<u8>),
     /// No public call: EXPAND of an octet, and its neighbours.
     Level(Law, u8),
     Read(Read),
@@ -47,7 +45,6 @@ impl Call {
             "decode" => Call::Decode(Decode::take(fields)?),
             "decode_linear" => Call::DecodeLinear(DecodeLinear::take(fields)?),
             "drop" => Call::Drop(Drop::take(fields)?),
-            "read_frame" => Call::ReadFrame(fields.take(octets)?),
             "level" => Call::Level(fields.take(law)?, fields.take(number)?),
             "read" => Call::Read(Read::take(fields)?),
             "end_text" => Call::EndText(fields.take(reader)?),
@@ -57,25 +54,14 @@ impl Call {
         })
     }
 
-    /// Whether it is one of the codec's seven public calls.
+    /// Whether it is one of the codec's six public calls.
     pub fn is_of_codec(&self) -> bool {
         match self {
-            Call::Reset(_) | Call::Drop(_) | Call::ReadFrame(_) => true,
+            Call::Reset(_) | Call::Drop(_) => true,
             Call::Encode(_) | Call::EncodeLinear(_) => true,
             Call::Decode(_) | Call::DecodeLinear(_) => true,
             Call::Level(..) => false,
             Call::Read(_) | Call::EndText(_) | Call::Write(_) | Call::EndValues(_) => false,
-        }
-    }
-
-    /// What the call is given as a frame.
-    pub fn frame(&self) -> Option<&[u8]> {
-        match self {
-            Call::Decode(c) => Some(&c.frame),
-            Call::DecodeLinear(c) => Some(&c.frame),
-            Call::Drop(c) => Some(&c.frame),
-            Call::ReadFrame(frame) => Some(frame),
-            _ => None,
         }
     }
 
@@ -88,7 +74,6 @@ impl Call {
             Call::Decode(_) => "decode",
             Call::DecodeLinear(_) => "decode_linear",
             Call::Drop(_) => "drop",
-            Call::ReadFrame(_) => "read_frame",
             Call::Level(..) => "level",
             Call::Read(_) => "read",
             Call::EndText(_) => "end_text",
@@ -108,7 +93,6 @@ impl fmt::Display for Call {
             Call::Decode(given) => given.fmt(f),
             Call::DecodeLinear(given) => given.fmt(f),
             Call::Drop(given) => given.fmt(f),
-            Call::ReadFrame(frame) => f.write_str(&write_octets(frame)),
             Call::Level(law, octet) => write!(f, "{} {octet}", law.number()),
             Call::Read(given) => given.fmt(f),
             Call::EndText(reader) => f.write_str(&write_reader(reader)),
@@ -134,8 +118,6 @@ mod tests {
             format!("decode {STATE} 255 - 00"),
             format!("decode_linear {STATE} 5201ff00 0000ffff"),
             "drop 6a01 3 000000".to_string(),
-            "read_frame 9201".to_string(),
-            "read_frame -".to_string(),
             "level 1 213".to_string(),
             format!("read {READER} 30310a ee"),
             format!("end_text {READER}"),
@@ -161,10 +143,6 @@ mod tests {
             ("drop 6a01 3", Unread::Field(4)),
             ("drop 6A01 3 -", Unread::Field(2)),
             ("drop 6a0 x -", Unread::Field(2)),
-            ("read_frame", Unread::Field(2)),
-            ("read_frame 9", Unread::Field(2)),
-            ("read_frame 92 01", Unread::TooMany(3)),
-            ("readframe 92", Unread::NoSuchCall),
             ("encode_linear", Unread::Field(2)),
             ("encode_linear 2", Unread::Field(2)),
             ("decode_linear 2", Unread::Field(2)),

@@ -2,9 +2,8 @@
 
 use crate::call::Call;
 use crate::fields::{octets_of, write_octets, write_state};
-use crate::header::Header;
 use crate::parts::{parts, Parts};
-use crate::rows::{due_length, due_reply};
+use crate::rows::due_reply;
 use crate::text_due;
 use second::state::State;
 use second::text::Verdict;
@@ -90,12 +89,10 @@ pub fn same<T: PartialEq + std::fmt::Debug>(what: &str, found: &T, due: &T) -> R
     Err(format!("{what} {found:?}, where {due:?} is due"))
 }
 
-/// What the rules say of every answer: its number is that of the first row that applies; a refusal reports nothing but the due length with 6, writes nothing and keeps the state; a success writes as much
-/// as the call's own form says, and the buffer beyond it stays. The frame reader tells the header as it stands.
+/// What the rules say of every answer: its number is that of the first row that applies; a refusal reports nothing, writes nothing and keeps the state; a success writes as much
+/// as the call's own form says, and the buffer beyond it stays.
 fn hold_always(call: &Call, found: &Parts) -> Result<(), String> {
     same("number", &Some(found.number), &due_reply(call))?;
-    same("due length", &found.due, &due_length(call))?;
-    same("header", &found.header, &due_fields(call))?;
     let (out, kept) = handed_in(call);
     let written = if found.number == 0 {
         due_written(call)
@@ -118,14 +115,6 @@ fn hold_always(call: &Call, found: &Parts) -> Result<(), String> {
     match kept {
         Some(_) => same("state", &texts[0], &texts[1]),
         None => Ok(()),
-    }
-}
-
-/// The header's fields that the frame reader tells.
-fn due_fields(call: &Call) -> Option<[u8; 5]> {
-    match call {
-        Call::ReadFrame(frame) => Some(Header::of(frame).fields()),
-        _ => None,
     }
 }
 
@@ -231,57 +220,4 @@ fn hold_samples(call: &Call, found: &Parts) -> Result<(), String> {
     let samples = found.samples();
     let off_scale = samples.iter().find(|s| !(-8_192..=8_191).contains(*s));
     same("a sample off the scale", &off_scale, &None)
-}
-
-#[cfg(test)]
-mod tests {
-    use super::*;
-
-    const STATE: &str = "544,34816,0,0,0,0,0,0,0,0,0,0,0,32,32,32,32,32,32,32,32,0,0,0,2,7";
-
-    fn holds(line: &str, answer: &str) -> bool {
-        let call = Call::read(line).expect("a call");
-        Due::Open.hold(&call, answer).is_ok()
-    }
-
-    /// Of all lengths this one alone may stand between these parts of the answer.
-    fn hold_this_alone(line: &str, before: &str, due: usize, behind: &str) {
-        for found in 0..8 {
-            let answer = format!("{before} {found} {behind}");
-            assert_eq!(holds(line, &answer), found == due, "{line} = {answer}");
-        }
-    }
-
-    #[test]
-    fn another_length_than_the_due_one_is_told() {
-        hold_this_alone("read_frame 9201", "6", 5, "2,2,2,1,0");
-        hold_this_alone("read_frame 9229", "2", 0, "2,2,2,41,0");
-        hold_this_alone("drop 5201ff 2 ee", "6 0", 4, "ee");
-        hold_this_alone("drop 5201ff00 2 ee", "3 0", 0, "ee");
-        for (word, rest, before, due) in [
-            ("decode", "0 5201 -", "6 0 0", 4),
-            ("decode", "2 5201 -", "9 0 0", 0),
-            ("decode_linear", "9201 -", "6 0 0", 5),
-            ("decode_linear", "5b01000000 -", "7 0 0", 0),
-        ] {
-            let line = format!("{word} {STATE} {rest}");
-            hold_this_alone(&line, before, due, &format!("- {STATE}"));
-        }
-    }
-
-    #[test]
-    fn another_header_than_the_frame_s_is_told() {
-        assert!(holds("read_frame 9201a5", "6 5 2,2,2,1,165"));
-        for header in [
-            "1,2,2,1,165",
-            "2,3,2,1,165",
-            "2,2,3,1,165",
-            "2,2,2,2,165",
-            "2,2,2,1,0",
-        ] {
-            assert!(!holds("read_frame 9201a5", &format!("6 5 {header}")));
-        }
-        assert!(holds("read_frame 5201a5", "6 4 1,2,2,1,0"));
-        assert!(!holds("read_frame 5201a5", "6 4 1,2,2,1,165"));
-    }
 }

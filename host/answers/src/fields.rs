@@ -1,8 +1,7 @@
 //! The fields of a line: numbers in decimal digits, octets in pairs of hexadecimal digits with `-` for none, linear samples in
-//! fours of them, a state as 26 numbers between commas, a header as five. Each value is written in one way only, so that a line
-//! says the same when it is written again.
+//! fours of them, a state as 26 numbers between commas. Each value is written in one way only, so that a line says the same when
+//! it is written again.
 
-use second::frame::Header;
 use second::state::State;
 
 /// How many numbers a state has.
@@ -97,16 +96,6 @@ pub fn write_state(s: &State) -> String {
     texts.join(",")
 }
 
-/// Edition, x, y, g and the frame number.
-pub fn header(text: &str) -> Option<[u8; 5]> {
-    let parts: Option<Vec<u8>> = text.split(',').map(number).collect();
-    parts?.try_into().ok()
-}
-
-pub fn write_header(header: &Header) -> String {
-    header.numbers().map(|number| number.to_string()).join(",")
-}
-
 #[cfg(test)]
 mod tests {
     use super::*;
@@ -171,35 +160,5 @@ mod tests {
             assert_eq!(state(&wrong), None, "{wrong}");
         }
         assert_eq!(state(&text.replace("65535,429", "65536,429")), None);
-    }
-
-    #[test]
-    fn a_header_has_five_numbers() {
-        assert_eq!(header("2,5,2,40,255"), Some([2, 5, 2, 40, 255]));
-        for wrong in [
-            "",
-            "2,5,2,40",
-            "2,5,2,40,255,0",
-            "2,5,2,40,",
-            "2,5,2,040,1",
-            "2,5,2,256,1",
-            "-",
-        ] {
-            assert_eq!(header(wrong), None, "{wrong}");
-        }
-        let numbered = Header {
-            edition: 2,
-            width: 5,
-            core: 3,
-            groups: 40,
-            number: Some(255),
-        };
-        assert_eq!(write_header(&numbered), "2,5,3,40,255");
-        let plain = Header {
-            edition: 1,
-            number: None,
-            ..numbered
-        };
-        assert_eq!(write_header(&plain), "1,5,3,40,0");
     }
 }

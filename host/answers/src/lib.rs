@@ -8,7 +8,6 @@ pub mod due;
 pub mod fields;
 pub mod given;
 pub mod groups;
-pub mod header;
 pub mod line;
 pub mod page;
 pub mod parts;

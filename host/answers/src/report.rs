@@ -11,7 +11,7 @@ use std::fmt;
 /// have to show each of them.
 type Saying = (&'static str, &'static str, &'static [&'static str]);
 
-const SAYINGS: [Saying; 8] = [
+const SAYINGS: [Saying; 7] = [
     ("reset", "reply", &["0", "1"]),
     ("encode", "reply", &["0", "1", "2", "3", "4", "5", "9"]),
     (
@@ -30,7 +30,6 @@ const SAYINGS: [Saying; 8] = [
         &["0", "1", "2", "3", "4", "5", "6", "7", "10"],
     ),
     ("drop", "reply", &["0", "1", "2", "3", "5", "6", "8"]),
-    ("read_frame", "reply", &["0", "1", "2", "5", "6"]),
     ("end_text", "verdict", &["0", "1", "2", "3", "4"]),
 ];
 
@@ -134,8 +133,6 @@ mod tests {
             ("decode", "10"),
             ("decode_linear", "10"),
             ("drop", "8"),
-            ("read_frame", "1"),
-            ("read_frame", "6"),
             ("end_text", "0"),
             ("end_text", "4"),
         ] {

@@ -2,7 +2,6 @@
 //! is in range is the second codec's word; the group `ranges` has it by hand.
 
 use crate::call::{Call, Decode, DecodeLinear, Drop, Encode, EncodeLinear};
-use crate::header::{frame_length, is_edition, Header};
 use random::states::PAIRS;
 use second::state::State;
 
@@ -18,19 +17,10 @@ pub fn due_reply(call: &Call) -> Option<u8> {
         Call::Decode(c) => of_decode(c),
         Call::DecodeLinear(c) => of_decode_linear(c),
         Call::Drop(c) => of_drop(c),
-        Call::ReadFrame(frame) => of_frame(frame),
         _ => return None,
     };
     let applies = rows.into_iter().find(|row| row.1);
     Some(applies.map_or(0, |row| row.0))
-}
-
-/// The length that is due in the answer: with 6 the one that the header calls for, and 0 with every other number.
-pub fn due_length(call: &Call) -> usize {
-    match (due_reply(call), call.frame()) {
-        (Some(6), Some(frame)) => Header::of(frame).length(),
-        _ => 0,
-    }
 }
 
 fn of_encode(c: &Encode) -> Vec<Row> {
@@ -63,7 +53,7 @@ fn of_request(state: &State, edition: u8, width: u8, samples: usize) -> [Row; 3]
 }
 
 fn of_frame_s_room(edition: u8, width: u8, samples: usize, room: usize) -> Row {
-    (3, room < frame_length(edition, width, samples / 8))
+    (3, room < due_length(edition, width, samples / 8))
 }
 
 fn of_decode(c: &Decode) -> Vec<Row> {
@@ -94,7 +84,7 @@ fn of_received(state: &State, frame: &[u8], room: usize) -> Vec<Row> {
 
 fn of_drop(c: &Drop) -> Vec<Row> {
     let header = Header::of(&c.frame);
-    let octets = frame_length(header.edition, c.width, header.groups);
+    let octets = due_length(header.edition, c.width, header.groups);
     let mut rows = of_frame(&c.frame);
     rows.extend([
         (8, c.width < header.core || c.width > header.width),
@@ -113,12 +103,44 @@ fn of_law(law: u8) -> Row {
 
 fn of_frame(frame: &[u8]) -> Vec<Row> {
     let header = Header::of(frame);
+    let octets = due_length(header.edition, header.width, header.groups);
     vec![
         (5, frame.len() < 2 || !is_edition(header.edition)),
         (1, !PAIRS.contains(&(header.width, header.core))),
         (2, !(1..=40).contains(&header.groups)),
-        (6, frame.len() != header.length()),
+        (6, frame.len() != octets),
     ]
+}
+
+/// An octet that is not there is 0: a row that would see it has one before it that applies.
+struct Header {
+    edition: u8,
+    width: u8,
+    core: u8,
+    groups: usize,
+    third: u8,
+}
+
+impl Header {
+    fn of(frame: &[u8]) -> Header {
+        let octet = |place: usize| frame.get(place).copied().unwrap_or(0);
+        Header {
+            edition: octet(0) / 64,
+            width: octet(0) / 8 % 8,
+            core: octet(0) % 8,
+            groups: usize::from(octet(1)),
+            third: octet(2),
+        }
+    }
+}
+
+fn is_edition(edition: u8) -> bool {
+    edition == 1 || edition == 2
+}
+
+fn due_length(edition: u8, width: u8, groups: usize) -> usize {
+    let header = if edition == 2 { 3 } else { 2 };
+    header + usize::from(width) * groups
 }
 
 #[cfg(test)]
@@ -138,12 +160,6 @@ mod tests {
             ("drop 5101 9 -", 1),
             ("drop 1201 9 -", 5),
             ("drop 52 2 -", 5),
-            ("read_frame 9201a5ff00", 0),
-            ("read_frame 9201a5ff", 6),
-            ("read_frame 9229", 2),
-            ("read_frame 9129", 1),
-            ("read_frame d129", 5),
-            ("read_frame -", 5),
         ] {
             let call = Call::read(line).unwrap();
             assert_eq!(due_reply(&call), Some(due), "{line}");
@@ -190,28 +206,6 @@ mod tests {
             };
             let call = Call::read(&format!("decode_linear {STATE} {frame} {out}")).unwrap();
             assert_eq!(due_reply(&call), Some(due), "{frame} {room}");
-        }
-    }
-
-    #[test]
-    fn a_length_is_due_beside_6_alone() {
-        for (line, due) in [
-            ("drop 9201 2 -".to_string(), 5),
-            ("drop 5201ff 9 -".to_string(), 4),
-            ("drop 5201ff00 9 -".to_string(), 0),
-            ("drop 5229ff 2 -".to_string(), 0),
-            ("read_frame 6c28".to_string(), 202),
-            ("read_frame ac28".to_string(), 203),
-            ("read_frame 5201ff00".to_string(), 0),
-            ("read_frame 52".to_string(), 0),
-            ("reset 9".to_string(), 0),
-            (format!("decode {STATE} 0 920108 -"), 5),
-            (format!("decode {STATE} 2 920108 -"), 0),
-            (format!("decode {STATE} 0 920108ff00 -"), 0),
-            (format!("decode_linear {STATE} 5b02 -"), 8),
-        ] {
-            let call = Call::read(&line).unwrap();
-            assert_eq!(due_length(&call), due, "{line}");
         }
     }
 }

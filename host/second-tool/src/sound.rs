@@ -51,36 +51,21 @@ pub fn encode(
     }
 }
 
-/// What a decoder answers, with the frame's samples as they stand in a stream.
-pub struct Heard {
-    pub number: u8,
-    pub due: usize,
-    pub speech: Vec<u8>,
-    pub state: State,
-}
-
-pub fn decode(end: End, state: State, frame: &[u8]) -> Heard {
+/// The number, the speech of the frame, and the state.
+pub fn decode(end: End, state: State, frame: &[u8]) -> (u8, Vec<u8>, State) {
     match end {
         End::Of(law) => {
             let mut out = [0; MOST_SAMPLES];
             let answer = calls::decode(state, law.number(), frame, &mut out);
-            Heard {
-                number: answer.number,
-                due: answer.due,
-                speech: out[..answer.octets].to_vec(),
-                state: answer.state,
-            }
+            let speech = out[..answer.octets].to_vec();
+            (answer.number, speech, answer.state)
         }
         End::Linear => {
             let mut out = [0; MOST_SAMPLES];
             let answer = calls::decode_linear(state, frame, &mut out);
             let samples = out[..answer.samples].iter();
-            Heard {
-                number: answer.number,
-                due: answer.due,
-                speech: samples.flat_map(|sample| sample.to_le_bytes()).collect(),
-                state: answer.state,
-            }
+            let speech = samples.flat_map(|sample| sample.to_le_bytes()).collect();
+            (answer.number, speech, answer.state)
         }
     }
 }
@@ -108,9 +93,10 @@ mod tests {
             yl: 327_680,
             ..State::reset(2)
         };
-        let heard = decode(End::Linear, state, &[0x6A, 1, 0x40, 0x80, 0x80, 0x80, 0x80]);
-        assert_eq!((heard.number, heard.speech.len()), (0, 16));
-        assert_eq!(heard.speech[..2], [0xFF, 0x1F]);
+        let (number, speech, _) =
+            decode(End::Linear, state, &[0x6A, 1, 0x40, 0x80, 0x80, 0x80, 0x80]);
+        assert_eq!((number, speech.len()), (0, 16));
+        assert_eq!(speech[..2], [0xFF, 0x1F]);
     }
 
     #[test]

@@ -47,12 +47,9 @@ impl Place {
         Stop(self.line(&format!("refused with {number}: {what}")))
     }
 
-    /// Refused since the stream has no more than so many octets of the frame.
-    pub fn cut(self, octets: usize, due: usize) -> Stop {
-        let what = format!(
-            "{octets} octets where the header calls for {due}; the stream ends inside the frame"
-        );
-        self.refused_since(replies::WRONG_LENGTH, &what)
+    pub fn cut(self, octets: usize) -> Stop {
+        let what = format!("the stream ends inside the frame; octets of it: {octets}");
+        Stop(self.line(&what))
     }
 
     pub fn cut_sample(self) -> Stop {
@@ -69,6 +66,9 @@ fn meaning(number: u8) -> &'static str {
         replies::OUT_TOO_SHORT => "out buffer shorter than the result",
         replies::STATE_OUT_OF_RANGE => "a state variable outside its range",
         replies::NOT_A_FRAME => "fewer than 2 octets, or edition neither 01 nor 10",
+        replies::WRONG_LENGTH => {
+            "length not 2 + x times g in edition 1, 3 + x times g in edition 2"
+        }
         replies::OTHER_CORE => "frame's core differs from the state's",
         replies::BAD_TARGET_WIDTH => "target width below y or above x",
         replies::SAMPLE_OUT_OF_RANGE => "a sample not from -8192 to 8191",

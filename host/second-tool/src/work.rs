@@ -1,7 +1,7 @@
 //! What each command makes of a piece of the stream: of samples, or of a frame.
 
 use crate::call::{Command, Plan, Widths};
-use crate::input::frame;
+use crate::input::{frame, header};
 use crate::list;
 use crate::sound;
 use crate::stop::Place;
@@ -9,10 +9,10 @@ use crate::totals::Totals;
 use filter::files::Source;
 use filter::line::Line;
 use filter::stop::Stop;
-use second::calls::{self, read_frame, reset};
+use second::calls::{self, reset};
 use second::end::End;
 use second::frame::GROUP;
-use second::replies::{DONE, OTHER_NUMBER, SAMPLE_OUT_OF_RANGE, WRONG_LENGTH};
+use second::replies::{DONE, OTHER_NUMBER, SAMPLE_OUT_OF_RANGE};
 use second::state::State;
 
 pub enum Work {
@@ -93,21 +93,13 @@ fn all_of(widths: &Widths) -> Result<Vec<u8>, Stop> {
     }
 }
 
-/// Nothing where the number is 0, else the refusal.
-fn done(number: u8, place: Place) -> Result<(), Stop> {
+/// The octets where the number is 0, else the refusal.
+fn done(number: u8, place: Place, octets: &[u8]) -> Result<Vec<u8>, Stop> {
     if number == DONE {
-        Ok(())
+        Ok(octets.to_vec())
     } else {
         Err(place.refused(number))
     }
-}
-
-/// The same of a frame, whose length is wrong only where the stream ends inside it.
-fn taken(frame: &[u8], number: u8, due: usize, place: Place) -> Result<(), Stop> {
-    if number == WRONG_LENGTH {
-        return Err(place.cut(frame.len(), due));
-    }
-    done(number, place)
 }
 
 fn encode(plan: &Plan, state: &mut State, piece: &[u8], place: Place) -> Result<Made, Stop> {
@@ -119,11 +111,11 @@ fn encode(plan: &Plan, state: &mut State, piece: &[u8], place: Place) -> Result<
     {
         return Err(place.off_scale(index, value));
     }
-    done(answer.number, place)?;
+    let octets = done(answer.number, place, &out[..answer.octets])?;
     *state = answer.state;
     Ok(Made {
         note,
-        octets: out[..answer.octets].to_vec(),
+        octets,
         state: Some(*state),
     })
 }
@@ -144,7 +136,7 @@ fn filled(from: End, piece: &[u8], place: Place) -> Result<(Vec<u8>, Option<Line
 }
 
 fn drop(width: u8, most: bool, frame: &[u8], place: Place) -> Result<Made, Stop> {
-    let header = read_frame(frame).header;
+    let header = header(frame, place)?;
     let target = if most {
         width.min(header.width).max(header.core)
     } else {
@@ -152,33 +144,30 @@ fn drop(width: u8, most: bool, frame: &[u8], place: Place) -> Result<Made, Stop>
     };
     let mut out = [0; ROOM];
     let answer = calls::drop_planes(frame, target, &mut out);
-    taken(frame, answer.number, answer.due, place)?;
     Ok(Made {
-        octets: out[..answer.octets].to_vec(),
+        octets: done(answer.number, place, &out[..answer.octets])?,
         ..Made::default()
     })
 }
 
 fn decode(to: End, kept: &mut Option<State>, frame: &[u8], place: Place) -> Result<Made, Stop> {
-    let header = read_frame(frame).header;
+    let header = header(frame, place)?;
     let state = kept.unwrap_or_else(|| reset(header.core).state);
-    let heard = sound::decode(to, state, frame);
-    if let (OTHER_NUMBER, Some(found)) = (heard.number, header.number) {
+    let (number, speech, next) = sound::decode(to, state, frame);
+    if let (OTHER_NUMBER, Some(found)) = (number, header.number) {
         return Err(place.misnumbered(found, state.number));
     }
-    taken(frame, heard.number, heard.due, place)?;
-    *kept = Some(heard.state);
+    let octets = done(number, place, &speech)?;
+    *kept = Some(next);
     Ok(Made {
-        octets: heard.speech,
+        octets,
         state: *kept,
         ..Made::default()
     })
 }
 
 fn inspect(totals: &mut Totals, frame: &[u8], place: Place) -> Result<Made, Stop> {
-    let answer = read_frame(frame);
-    taken(frame, answer.number, answer.due, place)?;
-    let header = answer.header;
+    let header = header(frame, place)?;
     totals.add(header.samples(), frame.len());
     let (index, edition, octets) = (place.frame, header.edition, frame.len());
     let (x, y, g) = (header.width, header.core, header.groups);
@@ -208,16 +197,12 @@ mod tests {
         assert!(drop(5, false, &frame, Place::default()).is_err());
     }
 
-    fn line(stop: Stop) -> String {
-        String::from_utf8_lossy(&stop.0).into_owned()
-    }
-
     /// The line that ends a stream of these frames, or none.
     fn stopped(frames: &[[u8; 5]]) -> Option<String> {
         let (mut kept, mut place) = (None, Place::default());
         for frame in frames {
             if let Err(stop) = decode(End::Of(Law::Mu), &mut kept, frame, place) {
-                return Some(line(stop));
+                return Some(String::from_utf8_lossy(&stop.0).into_owned());
             }
             place = place.next(frame.len());
         }
@@ -236,31 +221,6 @@ mod tests {
             stopped(&[255].map(numbered)),
             Some("frame 0 at octet 0: refused with 10: number 255 where 0 was due".to_string())
         );
-    }
-
-    /// Whatever its core, its number and the width that is asked for.
-    #[test]
-    fn what_the_stream_has_of_a_frame_is_told_beside_what_is_due() {
-        let place = Place { frame: 1, octet: 7 };
-        let cut = [0xAC, 20, 9, 0, 0];
-        let due = "frame 1 at octet 7: refused with 6: \
-                   5 octets where the header calls for 103; the stream ends inside the frame";
-        for to in End::ALL {
-            let mut kept = Some(State::reset(2));
-            let stop = decode(to, &mut kept, &cut, place).err();
-            assert_eq!(stop.map(line), Some(due.to_string()));
-            assert_eq!(kept, Some(State::reset(2)));
-        }
-        let mut totals = Totals::default();
-        let inspected = inspect(&mut totals, &cut, place);
-        for made in [
-            drop(2, false, &cut, place),
-            drop(2, true, &cut, place),
-            inspected,
-        ] {
-            assert_eq!(made.err().map(line), Some(due.to_string()));
-        }
-        assert_eq!(totals.line(), Totals::default().line());
     }
 
     fn filled_up(from: End, piece: &[u8]) -> (Vec<u8>, Option<Line>) {
@@ -305,9 +265,10 @@ mod tests {
         piece[10..12].copy_from_slice(&(-8_193_i16).to_le_bytes());
         let mut state = State::reset(2);
         let stop = encode(&plan, &mut state, &piece, place).err();
+        let line = stop.map(|stop| String::from_utf8_lossy(&stop.0).into_owned());
         let due =
             "frame 3 at octet 48: refused with 11: sample 29 is -8193, not from -8192 to 8191";
-        assert_eq!(stop.map(line), Some(due.to_string()));
+        assert_eq!(line, Some(due.to_string()));
         assert_eq!(state, State::reset(2));
     }
 }

@@ -2,7 +2,7 @@
 //! groups of eight samples, and in edition 2 an octet of frame number), then one plane of octets
 //! for each bit of the codewords, the sign bits first.
 
-use crate::replies::{self, demand, Refusal};
+use crate::replies::{self, demand};
 
 pub const PLAIN: u8 = 1;
 pub const NUMBERED: u8 = 2;
@@ -17,7 +17,7 @@ pub struct Header {
     pub width: u8,
     pub core: u8,
     pub groups: usize,
-    /// In edition 2.
+    /// In edition 2, where the frame is long enough to have it.
     pub number: Option<u8>,
 }
 
@@ -29,12 +29,6 @@ impl Header {
     /// The length of the whole frame.
     pub fn octets(&self) -> usize {
         self.octets_before_planes() + usize::from(self.width) * self.groups
-    }
-
-    /// The fields in the order of the header. A frame that bears no number has 0 for it.
-    pub fn numbers(&self) -> [u8; 5] {
-        let (groups, number) = (self.groups as u8, self.number.unwrap_or(0));
-        [self.edition, self.width, self.core, groups, number]
     }
 
     fn octets_before_planes(&self) -> usize {
@@ -60,36 +54,26 @@ pub fn is_sample_count(count: usize) -> bool {
     count.is_multiple_of(GROUP) && (1..=MOST_GROUPS).contains(&(count / GROUP))
 }
 
-/// The header as it stands, whether or not there are such frames. An octet that is not there is 0.
-pub fn header_as_it_stands(frame: &[u8]) -> Header {
-    let mut head = [0; 3];
-    for (place, octet) in head.iter_mut().zip(frame) {
-        *place = *octet;
-    }
-    let [first, groups, third] = head;
+/// The header of a well-formed frame, or the number of the first thing wrong with it.
+pub fn read_header(frame: &[u8]) -> Result<Header, u8> {
+    let &[first, groups, ref behind @ ..] = frame else {
+        return Err(replies::NOT_A_FRAME);
+    };
     let edition = first >> 6;
-    Header {
+    let header = Header {
         edition,
         width: first >> 3 & 7,
         core: first & 7,
         groups: usize::from(groups),
-        number: has_number(edition).then_some(third),
-    }
-}
-
-/// The header of a well-formed frame, or the first thing wrong with it.
-pub fn read_header(frame: &[u8]) -> Result<Header, Refusal> {
-    let header = header_as_it_stands(frame);
-    let known = frame.len() >= HEADER_OCTETS && is_edition(header.edition);
-    demand(known, replies::NOT_A_FRAME)?;
+        number: behind.first().copied().filter(|_| has_number(edition)),
+    };
+    demand(is_edition(edition), replies::NOT_A_FRAME)?;
     demand(
         replies::is_pair(header.width, header.core),
         replies::NO_SUCH_PAIR,
     )?;
     demand(is_sample_count(header.samples()), replies::BAD_SAMPLE_COUNT)?;
-    if frame.len() != header.octets() {
-        return Err(Refusal::wrong_length(header.octets()));
-    }
+    demand(frame.len() == header.octets(), replies::WRONG_LENGTH)?;
     Ok(header)
 }
 

@@ -28,29 +28,6 @@ pub fn is_pair(width: u8, core: u8) -> bool {
     is_core(core) && (core..=WIDEST).contains(&width)
 }
 
-/// Why a call is refused, and beside a wrong length the one that was due.
-#[derive(Clone, Copy, Debug, PartialEq, Eq)]
-pub struct Refusal {
-    pub number: u8,
-    /// 0 beside every number but that of a wrong length.
-    pub due: usize,
-}
-
-impl Refusal {
-    pub fn wrong_length(due: usize) -> Refusal {
-        Refusal {
-            number: WRONG_LENGTH,
-            due,
-        }
-    }
-}
-
-impl From<u8> for Refusal {
-    fn from(number: u8) -> Refusal {
-        Refusal { number, due: 0 }
-    }
-}
-
 /// A step in a list of tests: the number is the answer where the test fails.
 pub fn demand(holds: bool, otherwise: u8) -> Result<(), u8> {
     if holds {

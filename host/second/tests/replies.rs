@@ -10,7 +10,7 @@ use second::state::State;
 use support::asked::{
     decoded, decoding_in_order, dropped, encoded, head_octets, in_order, numbered_frame,
     sound_decoding, sound_dropping, sound_encoding, sound_frame, Decoding, Dropping, Encoding,
-    Fault, DECODING_FAULTS, DROPPING_FAULTS,
+    Fault, DECODING_FAULTS,
 };
 
 #[test]
@@ -40,13 +40,21 @@ fn decode_answers_4_9_5_1_2_6_7_10_3_in_this_order() {
 
 #[test]
 fn drop_answers_5_1_2_6_8_3_in_this_order() {
+    let faults: [Fault<Dropping>; 6] = [
+        (5, |ask| ask.frame[0] &= 0b0011_1111),
+        (1, |ask| ask.frame[0] = ask.frame[0] & 0b1111_1000 | 7),
+        (2, |ask| ask.frame[1] = 41),
+        (6, |ask| ask.frame.truncate(11)),
+        (8, |ask| ask.target = 2),
+        (3, |ask| ask.room = 3),
+    ];
     for (frame, room) in [(sound_frame(), 10), (numbered_frame(77), 11)] {
         let sound = Dropping {
             frame,
             room,
             ..sound_dropping()
         };
-        in_order(sound, &DROPPING_FAULTS, dropped);
+        in_order(sound, &faults, dropped);
     }
 }
 

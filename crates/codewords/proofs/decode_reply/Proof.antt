@@ -9,7 +9,7 @@ use Rattle.words.specs.First.{first}
 use Rattle.words.proofs.First.{NoneApplies, first_says}
 use Rattle.state.specs.Range.{in_range}
 use Rattle.frame.specs.Header.{is_due}
-use Rattle.read_frame.specs.Rows.{frame_rows}
+use Rattle.frame.specs.Rows.{frame_rows}
 use Rattle.replies.proofs.Answers.{is_refusal, is_success}
 use Rattle.codewords.specs.Decode.{decode_rows, decode_number}
 use Rattle.codewords.proofs.Fitness.{decode_front, decode_behind}

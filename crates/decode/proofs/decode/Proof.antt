@@ -31,9 +31,7 @@ able c = (decode_says _ _ _ _ _ (fit c)).1
 
 returns : tie.Need-returns
 returns c =
-    let at = c.before.before.before in
-    let refused = is_refusal c.before.before.is-done.ensures (number at) c.before.if1.true in
-    decodes_refused _ _ _ _ (number at) refused (c.due-with.ensures ∙ rw at.before.before.read-header.ensures)
+    decodes_refused _ _ _ _ (number c.before.before) (is_refusal c.before.is-done.ensures (number c.before.before) c.if1.true)
 
 -- the planes begin behind the header's octets, of which there are enough
 start : (c : tie.After-header-length) → c.header-length.result ≡ header_length (header_of c.before.before.before.before.before.before.before.before.args.frame.now).edition
@@ -64,7 +62,6 @@ pub decode_spec : {M : Type 1} → statement M
 decode_spec =
     tie.close
     (tie.spec
-    (search rules)
     (search rules)
     (search rules)
     (search rules)

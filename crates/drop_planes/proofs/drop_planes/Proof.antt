@@ -1,13 +1,11 @@
 -- `drop_planes::drop_planes` meets its contract.
 use borrow.Author.Rules.{rules}
-use mathlib.Core.Path.{◌≡◌, sym, ◌∙◌}
-use native.Mathlib.Omega.{arith}
+use mathlib.Core.Path.{◌≡◌, ◌∙◌}
 use lib.ListN.{length}
 use Rattle.frame.specs.Header.{header_of}
-use Rattle.read_frame.proofs.Due.{due_none}
 use Rattle.replies.specs.Reply.{number_of}
 use Rattle.replies.proofs.Answers.{refusal, success, is_refusal, is_success}
-use Rattle.drop_planes.specs.Drop.{drop_reply, drop_octets, drop_due, drop_out}
+use Rattle.drop_planes.specs.Drop.{drop_reply, drop_octets, drop_out}
 use Rattle.drop_planes.specs.Inner.{Droppable}
 use Rattle.drop_planes.proofs.Fitness.{drop_says}
 use Rattle.drop_planes.proofs.drop_planes.Statement.{statement}
@@ -29,16 +27,10 @@ unfolding drop_reply
 able c = drop_says _ _ _ _ (fit c)
 
 returns : tie.Need-returns
-unfolding drop_octets drop_due drop_out
+unfolding drop_octets drop_out
 returns c =
-    let refused = unfit c.before in
-    let is = number c.before.before.before in
-    record {
-      number = is;
-      octets = refusal _ _ _ refused;
-      due = c.due-with.ensures ∙ rw (is, c.before.before.before.before.read-header.ensures);
-      out = refusal _ _ _ refused;
-    }
+    let refused = unfit c in
+    record { number = number c.before.before; octets = refusal _ _ _ refused; out = refusal _ _ _ refused }
 
 thin-frame-requires : tie.Need-thin-frame-requires
 thin-frame-requires c κs =
@@ -47,7 +39,7 @@ thin-frame-requires c κs =
     (h, rw h k.sound, rw h k.target, rw h k.space)
 
 returns-2 : tie.Need-returns-2
-unfolding drop_octets drop_due drop_out
+unfolding drop_octets drop_out
 returns-2 c =
     let at = c.before.before.before.before.before.before in
     let h = at.before.before.before.read-header.ensures in
@@ -55,7 +47,6 @@ returns-2 c =
     record {
       number = number at.before.before;
       octets = c.due-length.ensures ∙ rw (c.before.narrow.ensures, h) (success _ _ _ n);
-      due = sym (due_none _ _ (λ e. absurd (omega (arith, n, e))));
       out = c.before.before.before.before.thin-frame.ensures ∙ rw h (success _ _ _ n);
     }
 
@@ -63,7 +54,6 @@ pub drop_planes_spec : {M : Type 1} → statement M
 drop_planes_spec =
     tie.close
     (tie.spec
-    (search rules)
     (search rules)
     (search rules)
     (search rules)

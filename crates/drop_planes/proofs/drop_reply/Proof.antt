@@ -7,7 +7,7 @@ use Rattle.words.specs.First.{first}
 use Rattle.words.proofs.First.{NoneApplies, first_says}
 use Rattle.frame.specs.Header.{due_length}
 use Rattle.frame.specs.Read.{narrowed}
-use Rattle.read_frame.specs.Rows.{frame_rows}
+use Rattle.frame.specs.Rows.{frame_rows}
 use Rattle.replies.proofs.Answers.{is_refusal, is_success}
 use Rattle.drop_planes.specs.Drop.{is_target}
 use Rattle.drop_planes.proofs.Fitness.{drop_front, drop_behind}

@@ -2,10 +2,9 @@
 //! ones of either length. What is the number in edition 2 is an octet of the first plane in edition 1.
 
 use super::parts::{
-    at_number, decode, drop, editions_and_pairs, encode_fitting, first_octet, frame_octets, octets,
-    room, samples, with_third,
+    at_number, decode, drop, editions_and_pairs, encode_fitting, frame_octets, octets, room,
+    samples,
 };
-use crate::call::Call;
 use crate::due::Due;
 use crate::page::Page;
 use random::states::PAIRS;
@@ -50,7 +49,16 @@ fn received(page: &mut Page, edition: u8, (width, core): (u8, u8), length: usize
     let state = at_number(core, NUMBER);
     page.due(due(8), decode(state, 1, frame(), room(8)));
     page.due(due(whole), drop(frame(), width, room(9)));
-    page.due(due(0), Call::ReadFrame(frame()));
+}
+
+fn first_octet(edition: u8, width: u8, core: u8) -> u8 {
+    edition << 6 | width << 3 | core
+}
+
+fn with_third(frame: Vec<u8>, third: u8) -> Vec<u8> {
+    let mut octets = frame;
+    octets.iter_mut().skip(2).take(1).for_each(|o| *o = third);
+    octets
 }
 
 /// The third octet as the due number and as others: edition 2 takes one of them, edition 1 each.

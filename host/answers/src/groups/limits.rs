@@ -3,7 +3,6 @@
 use super::parts::{
     decode, drop, encode, head_octets, in_edition, octets, room, samples, EDITIONS,
 };
-use crate::call::Call;
 use crate::due::Due;
 use crate::page::Page;
 use second::state::State;
@@ -62,8 +61,7 @@ fn groups(page: &mut Page, edition: u8) {
         );
         let wide = frame(0x6A, groups, 5 * planes);
         let thin = head_octets(edition) + 3 * planes;
-        page.due(due(thin), drop(wide.clone(), 3, room(126)));
-        page.due(due(0), Call::ReadFrame(wide));
+        page.due(due(thin), drop(wide, 3, room(126)));
     }
 }
 
@@ -85,5 +83,4 @@ fn short_frames(page: &mut Page, edition: u8, length: usize) {
     };
     page.due(due(8), decode(State::reset(2), 1, frame(), room(9)));
     page.due(due(whole), drop(frame(), 2, room(6)));
-    page.due(due(0), Call::ReadFrame(frame()));
 }

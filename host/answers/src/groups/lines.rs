@@ -1,6 +1,5 @@
 //! Lines that are no calls: each gets a comment with its number and what is wrong with it.
 
-use super::frame_lines;
 use super::linear_lines;
 use super::parts::{encode, room};
 use super::text_lines;
@@ -21,7 +20,6 @@ pub fn lines(page: &mut Page) {
     numbers(page);
     octets(page);
     states(page);
-    frame_lines::frame_lines(page);
     linear_lines::linear_lines(page);
     text_lines::text_lines(page);
     long(page);

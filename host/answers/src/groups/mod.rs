@@ -8,11 +8,9 @@ mod buffers;
 mod cuts;
 mod drawn;
 mod drawn_texts;
-mod due_lengths;
 mod editions;
 pub mod ends;
 mod expanded;
-mod frame_lines;
 mod limits;
 mod linear_buffers;
 mod linear_ends;
@@ -29,7 +27,6 @@ mod poles;
 mod products;
 mod quantizing;
 mod ranges;
-mod read_frames;
 mod readers;
 mod replies;
 mod speed;
@@ -45,7 +42,7 @@ mod writers;
 mod written;
 mod zeros;
 
-const GROUPS: [fn(&mut Page); 52] = [
+const GROUPS: [fn(&mut Page); 50] = [
     worked::frames,
     worked::first_bytes,
     worked::levels,
@@ -57,8 +54,6 @@ const GROUPS: [fn(&mut Page); 52] = [
     ranges::ranges,
     editions::editions,
     numbers::numbers,
-    read_frames::read_frames,
-    due_lengths::due_lengths,
     widths::copies,
     widths::dropped,
     widths::changed,

@@ -65,13 +65,6 @@ const DROP: [Fault<Drop>; 6] = [
     (3, |c| c.out.truncate(3)),
 ];
 
-const READ_FRAME: [Fault<Vec<u8>>; 4] = [
-    (5, |frame| frame[0] |= 0b1100_0000),
-    (1, |frame| frame[0] = frame[0] & 0b1111_1000 | 1),
-    (2, |frame| frame[1] = 255),
-    (6, |frame| frame.truncate(3)),
-];
-
 pub fn order(page: &mut Page) {
     page.group(
         "order",
@@ -118,10 +111,9 @@ fn in_edition_s_order(page: &mut Page, edition: u8) {
         let rows = with_number_in_edition_2(&DECODE, edition);
         in_pairs(page, &sound, &rows, Call::Decode);
     }
-    if let Call::Drop(sound) = drop(frame.clone(), 4, room(head + 8)) {
+    if let Call::Drop(sound) = drop(frame, 4, room(head + 8)) {
         in_pairs(page, &sound, &DROP, Call::Drop);
     }
-    in_pairs(page, &frame, &READ_FRAME, Call::ReadFrame);
 }
 
 fn in_pairs<T: Clone>(page: &mut Page, sound: &T, faults: &[Fault<T>], call: fn(T) -> Call) {

@@ -38,10 +38,6 @@ pub fn head_octets(edition: u8) -> usize {
     }
 }
 
-pub fn first_octet(edition: u8, width: u8, core: u8) -> u8 {
-    edition << 6 | width << 3 | core
-}
-
 /// The first octet of a header of edition 1.
 pub fn head(width: u8, core: u8) -> u8 {
     64 + 8 * width + core
@@ -53,13 +49,6 @@ pub fn octets(first: u8, groups: u8, length: usize) -> Vec<u8> {
     octets[0] = first;
     octets[1] = groups;
     octets.truncate(length);
-    octets
-}
-
-/// The octets with another third one, where there are so many.
-pub fn with_third(frame: Vec<u8>, third: u8) -> Vec<u8> {
-    let mut octets = frame;
-    octets.iter_mut().skip(2).take(1).for_each(|o| *o = third);
     octets
 }
 

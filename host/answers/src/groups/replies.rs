@@ -108,8 +108,6 @@ fn headers(page: &mut Page) {
         page.due(decoded, decode(State::reset(3), 0, frame(), room(9)));
         let thinned = wrong.map_or(Due::Done(length), Due::Refused);
         page.due(thinned, drop(frame(), width, room(11)));
-        let read = wrong.map_or(Due::Done(0), Due::Refused);
-        page.due(read, Call::ReadFrame(frame()));
     }
 }
 

@@ -1,7 +1,7 @@
 //! A call by its parts, drawn from the grammar of docs/TOOL.md so that all of it fits, and the faults
 //! that its data, its files and their names may get.
 
-use super::streams::{cut, damage, frames, misplace, narrowest, sound, spoil_linear, EDITIONS};
+use super::streams::{damage, frames, misplace, narrowest, sound, spoil_linear, EDITIONS};
 use crate::run::{Files, Given};
 use random::states::PAIRS;
 use random::Random;
@@ -100,8 +100,7 @@ impl Draft {
             2..=4 if self.list.is_some() => self.spoil_list(random),
             _ if self.is_linear_encode() => self.spoil_speech(random),
             _ if self.command[0] == "encode" => self.input = Some("none"),
-            5 | 6 => misplace(random, &mut self.stream),
-            7 => cut(random, &mut self.stream),
+            5..=7 => misplace(random, &mut self.stream),
             _ => damage(random, &mut self.stream),
         }
     }

@@ -41,9 +41,7 @@ fn with_wrong_words(mut draft: Draft, random: &mut Random) -> Given {
 mod tests {
     use super::*;
     use crate::fuzz::drawn::{self, COUNT};
-    use crate::fuzz::streams::{cut_frame, EDITIONS};
     use std::collections::BTreeSet;
-    use std::ops::Range;
 
     fn drawn(seed: u64) -> Vec<(Aim, Given)> {
         drawn::drawn(draw, seed)
@@ -86,23 +84,6 @@ mod tests {
             let first = |g: &&Given| g.input.first().is_some_and(|octet| octet >> 6 == edition);
             let decoded = calls.iter().filter(|g| g.words.contains(&"decode".into()));
             assert!(decoded.filter(first).count() > COUNT / 50, "{edition}");
-        }
-    }
-
-    #[test]
-    fn streams_end_inside_frames_of_both_editions() {
-        let calls = drawn(6);
-        let fitting = calls.iter().filter(|(aim, _)| *aim == Aim::Fault);
-        let streams = fitting.flat_map(|(_, g)| g.files.values().chain([&g.input]));
-        let cuts: Vec<(u8, usize)> = streams.filter_map(|s| cut_frame(s)).collect();
-        for edition in EDITIONS {
-            let met = |octets: Range<usize>| {
-                let cut = |found: &&(u8, usize)| found.0 == edition && octets.contains(&found.1);
-                cuts.iter().filter(cut).count()
-            };
-            for octets in [1..2, 2..3, 3..4, 4..203] {
-                assert!(met(octets.clone()) > 3, "{edition}: {octets:?}");
-            }
         }
     }
 

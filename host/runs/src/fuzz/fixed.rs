@@ -23,7 +23,6 @@ pub fn calls() -> Vec<Given> {
     calls.extend(odd_files());
     calls.extend(lists());
     calls.extend(long_streams());
-    calls.extend(cut_streams());
     calls.extend(long_linear());
     calls
 }
@@ -160,31 +159,6 @@ fn long_streams() -> Vec<Given> {
     calls
 }
 
-/// Streams that end inside their last frame: behind each octet of its header, in its middle, before its last octet.
-fn cut_streams() -> Vec<Given> {
-    let mut random = Random::new(729);
-    let mut calls = Vec::new();
-    for edition in EDITIONS {
-        let frames = stream(&mut random, 2, &[edition], 9);
-        let longest = frames.iter().max_by_key(|frame| frame.len());
-        let last = longest.expect("a frame");
-        let before = frames.iter().take_while(|frame| *frame != last);
-        let whole: Vec<u8> = before.flatten().copied().collect();
-        for left in [1, 2, 3, last.len() / 2, last.len() - 1] {
-            let cut = [&whole, &last[..left]].concat();
-            for words in [
-                &["-v", "decode", "a"][..],
-                &["decode", "linear"],
-                &["drop", "2"],
-                &["inspect"],
-            ] {
-                calls.push(given(words, &cut));
-            }
-        }
-    }
-    calls
-}
-
 /// Linear speech longer than the buffers of either program: whole, with half a sample more, with one
 /// sample off the scale.
 fn long_linear() -> Vec<Given> {
@@ -250,8 +224,6 @@ pub fn given(words: &[&str], input: &[u8]) -> Given {
 #[cfg(test)]
 mod tests {
     use super::*;
-    use crate::fuzz::streams::cut_frame;
-    use std::collections::BTreeSet;
 
     #[test]
     fn the_lists_stand_on_both_sides_of_the_limit() {
@@ -261,20 +233,6 @@ mod tests {
             .collect();
         assert_eq!(lengths.iter().filter(|&&l| l == LIST).count(), 4);
         assert_eq!(lengths.iter().filter(|&&l| l == LIST + 1).count(), 3);
-    }
-
-    #[test]
-    fn the_cut_streams_end_inside_a_frame_of_either_edition() {
-        let cuts: BTreeSet<(u8, usize)> = cut_streams()
-            .iter()
-            .map(|given| cut_frame(&given.input).expect("a frame that is cut"))
-            .collect();
-        for edition in EDITIONS {
-            for octets in 1..=3 {
-                assert!(cuts.contains(&(edition, octets)));
-            }
-            assert_eq!(cuts.iter().filter(|cut| cut.0 == edition).count(), 5);
-        }
     }
 
     #[test]

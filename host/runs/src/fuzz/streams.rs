@@ -6,8 +6,6 @@ use second::end::End;
 use second::frame::{HEADER_OCTETS, NUMBERED, PLAIN};
 use second::g711::{compress, Law};
 use second::linear::{GREATEST, LEAST};
-#[cfg(test)]
-use second::replies::WRONG_LENGTH;
 use second::state::State;
 
 pub const EDITIONS: [u8; 2] = [PLAIN, NUMBERED];
@@ -111,7 +109,10 @@ pub fn damage(random: &mut Random, frames: &mut Vec<Vec<u8>>) {
             let octet = random.below(frame.len() as u64) as usize;
             frame[octet] ^= 1 << random.below(8);
         }
-        2 => cut(random, frames),
+        2 => {
+            frame.truncate(random.below(frame.len() as u64) as usize);
+            frames.truncate(place + 1);
+        }
         // The other edition, whose frame has another length.
         3 => frame[0] ^= (PLAIN ^ NUMBERED) << 6,
         4 => frames.insert(place, garbage(random)),
@@ -122,20 +123,6 @@ pub fn damage(random: &mut Random, frames: &mut Vec<Vec<u8>>) {
             frames.append(&mut others);
         }
     }
-}
-
-/// The stream ends inside a frame, one time in two inside its header or just behind that.
-pub fn cut(random: &mut Random, frames: &mut Vec<Vec<u8>>) {
-    let Some(place) = any_place(random, frames) else {
-        return;
-    };
-    let frame = &mut frames[place];
-    let left = match random.below(2) {
-        0 => 1 + random.below(3),
-        _ => random.below(frame.len() as u64),
-    };
-    frame.truncate(left as usize);
-    frames.truncate(place + 1);
 }
 
 /// A frame lost, doubled, exchanged with another or given another number. In edition 1 decode does not
@@ -179,21 +166,6 @@ fn renumber(random: &mut Random, frame: &mut [u8]) {
 fn garbage(random: &mut Random) -> Vec<u8> {
     let count = random.within(1, 9) as usize;
     random.bytes(count)
-}
-
-/// The edition of the frame that a stream ends inside, and how many octets of it there are.
-#[cfg(test)]
-pub fn cut_frame(stream: &[u8]) -> Option<(u8, usize)> {
-    let mut rest = stream;
-    while let Some(head) = rest.get(..HEADER_OCTETS) {
-        let beginning = calls::read_frame(head);
-        match (beginning.number, rest.get(beginning.due..)) {
-            (WRONG_LENGTH, Some(behind)) => rest = behind,
-            (WRONG_LENGTH, None) => return Some((beginning.header.edition, rest.len())),
-            _ => return None,
-        }
-    }
-    rest.first().map(|first| (first >> 6, rest.len()))
 }
 
 #[cfg(test)]

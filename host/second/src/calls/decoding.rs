@@ -4,7 +4,7 @@
 use super::behind;
 use crate::frame::{self, Header};
 use crate::g711::Law;
-use crate::replies::{self, demand, Refusal};
+use crate::replies::{self, demand};
 use crate::sample;
 use crate::state::State;
 
@@ -13,8 +13,6 @@ pub struct DecodeAnswer {
     pub number: u8,
     pub octets: usize,
     pub disagreements: usize,
-    /// Beside a wrong length the one that the header calls for, else 0.
-    pub due: usize,
     pub state: State,
 }
 
@@ -25,7 +23,6 @@ pub struct DecodeLinearAnswer {
     pub number: u8,
     pub samples: usize,
     pub disagreements: usize,
-    pub due: usize,
     pub state: State,
 }
 
@@ -33,11 +30,10 @@ pub struct DecodeLinearAnswer {
 /// not be encoded to the codeword received.
 pub fn decode(state: State, law: u8, frame: &[u8], out: &mut [u8]) -> DecodeAnswer {
     match decode_plan(&state, law, frame, out.len()) {
-        Err(Refusal { number, due }) => DecodeAnswer {
+        Err(number) => DecodeAnswer {
             number,
             octets: 0,
             disagreements: 0,
-            due,
             state,
         },
         Ok((law, header)) => {
@@ -51,7 +47,6 @@ pub fn decode(state: State, law: u8, frame: &[u8], out: &mut [u8]) -> DecodeAnsw
                 number: replies::DONE,
                 octets: header.samples(),
                 disagreements,
-                due: 0,
                 state: last,
             }
         }
@@ -60,48 +55,37 @@ pub fn decode(state: State, law: u8, frame: &[u8], out: &mut [u8]) -> DecodeAnsw
 
 /// The whole of `frame` to linear samples.
 pub fn decode_linear(state: State, frame: &[u8], out: &mut [i16]) -> DecodeLinearAnswer {
-    match decode_linear_plan(&state, frame, out.len()) {
-        Err(Refusal { number, due }) => DecodeLinearAnswer {
-            number,
-            samples: 0,
-            disagreements: 0,
-            due,
-            state,
-        },
+    let (number, samples, state) = match decode_linear_plan(&state, frame, out.len()) {
+        Err(number) => (number, 0, state),
         Ok(header) => {
             let last = decode_samples(state, header, frame, out, |state, codeword| {
                 let decoded = sample::decode_linear(state, header.width, codeword);
                 (decoded.sample, decoded.state)
             });
-            DecodeLinearAnswer {
-                number: replies::DONE,
-                samples: header.samples(),
-                disagreements: 0,
-                due: 0,
-                state: last,
-            }
+            (replies::DONE, header.samples(), last)
         }
+    };
+    DecodeLinearAnswer {
+        number,
+        samples,
+        disagreements: 0,
+        state,
     }
 }
 
-fn decode_plan(
-    state: &State,
-    law: u8,
-    frame: &[u8],
-    room: usize,
-) -> Result<(Law, Header), Refusal> {
+fn decode_plan(state: &State, law: u8, frame: &[u8], room: usize) -> Result<(Law, Header), u8> {
     demand(state.in_range(), replies::STATE_OUT_OF_RANGE)?;
     let law = Law::from_number(law).ok_or(replies::NO_SUCH_LAW)?;
     Ok((law, header_taken(state, frame, room)?))
 }
 
-fn decode_linear_plan(state: &State, frame: &[u8], room: usize) -> Result<Header, Refusal> {
+fn decode_linear_plan(state: &State, frame: &[u8], room: usize) -> Result<Header, u8> {
     demand(state.in_range(), replies::STATE_OUT_OF_RANGE)?;
     header_taken(state, frame, room)
 }
 
 /// The header of a frame that a decoder in this state takes, with room for so many samples.
-fn header_taken(state: &State, frame: &[u8], room: usize) -> Result<Header, Refusal> {
+fn header_taken(state: &State, frame: &[u8], room: usize) -> Result<Header, u8> {
     let header = frame::read_header(frame)?;
     demand(header.core == state.core, replies::OTHER_CORE)?;
     let due = |number| number == state.number;

@@ -1,16 +1,14 @@
-//! The public calls: reset, encode a frame, decode a frame, drop planes, read a frame's header. Each
-//! tests its input in the order laid down for it and answers with the number of the first row that
-//! applies; a refused call writes nothing and hands back the state it was given.
+//! The public calls: reset, encode a frame, decode a frame, drop planes. Each tests its input in
+//! the order laid down for it and answers with the number of the first row that applies;
+//! a refused call writes nothing and hands back the state it was given.
 
 mod decoding;
 mod dropping;
 mod encoding;
-mod reading;
 
 pub use decoding::{decode, decode_linear, DecodeAnswer, DecodeLinearAnswer};
 pub use dropping::{drop_planes, DropAnswer};
 pub use encoding::{encode, encode_linear, EncodeAnswer};
-pub use reading::{read_frame, ReadFrameAnswer};
 
 use crate::frame::Header;
 use crate::replies;

@@ -21,20 +21,6 @@ pub fn head_octets(edition: u8) -> usize {
     }
 }
 
-/// The length that a frame's header calls for, by its first two octets.
-pub fn length_due(frame: &[u8]) -> usize {
-    let (edition, width) = (frame[0] >> 6, frame[0] >> 3 & 7);
-    head_octets(edition) + usize::from(width) * usize::from(frame[1])
-}
-
-/// The length that is reported beside a number: with 6 the one that the header calls for.
-pub fn length_beside(number: u8, frame: &[u8]) -> usize {
-    match number {
-        6 => length_due(frame),
-        _ => 0,
-    }
-}
-
 /// The number that is due behind a frame done.
 fn number_behind(state: &State, edition: u8) -> u8 {
     match (edition, state.number) {
@@ -175,7 +161,6 @@ pub fn decoded(ask: &Decoding) -> u8 {
         number: answer.number,
         samples: answer.octets,
         disagreements: answer.disagreements,
-        due: answer.due,
         state: answer.state,
     };
     look_at_samples(ask, &counted, &out, FILL);
@@ -201,7 +186,6 @@ fn look_at_samples<T: PartialEq + Copy>(
     out: &[T],
     fill: T,
 ) {
-    assert_eq!(answer.due, length_beside(answer.number, &ask.frame));
     if answer.number == 0 {
         let samples = 8 * usize::from(ask.frame[1]);
         let number = number_behind(&ask.state, ask.frame[0] >> 6);
@@ -234,7 +218,6 @@ pub fn sound_dropping() -> Dropping {
 pub fn dropped(ask: &Dropping) -> u8 {
     let mut out = vec![FILL; ask.room];
     let answer = drop_planes(&ask.frame, ask.target, &mut out);
-    assert_eq!(answer.due, length_beside(answer.number, &ask.frame));
     if answer.number == 0 {
         let planes = usize::from(ask.target) * usize::from(ask.frame[1]);
         let octets = head_octets(ask.frame[0] >> 6) + planes;
@@ -267,16 +250,6 @@ pub const DECODING_FAULTS: [Fault<Decoding>; 9] = [
     (3, |ask| ask.room = 0),
 ];
 
-/// Of a drop, in the order of its rows.
-pub const DROPPING_FAULTS: [Fault<Dropping>; 6] = [
-    (5, |ask| ask.frame[0] &= 0b0011_1111),
-    (1, |ask| ask.frame[0] = ask.frame[0] & 0b1111_1000 | 7),
-    (2, |ask| ask.frame[1] = 41),
-    (6, |ask| ask.frame.truncate(11)),
-    (8, |ask| ask.target = 2),
-    (3, |ask| ask.room = 3),
-];
-
 /// Spoils a sound decoding in every combination of these faults, with a frame of either edition. One of
 /// edition 1 has no number that could be wrong.
 pub fn decoding_in_order(
@@ -290,17 +263,6 @@ pub fn decoding_in_order(
     in_order(numbered, &Vec::from_iter(faults.clone()), answer);
     let of_edition_1 = faults.filter(|fault| fault.0 != 10);
     in_order(sound_decoding(), &Vec::from_iter(of_edition_1), answer);
-}
-
-/// A sound call, and with each of these faults by itself; before each the reply that is due.
-pub fn with_each_fault<T: Clone>(sound: &T, faults: &[Fault<T>]) -> Vec<(u8, T)> {
-    let mut asks = vec![(0, sound.clone())];
-    for (number, spoil) in faults {
-        let mut ask = sound.clone();
-        spoil(&mut ask);
-        asks.push((*number, ask));
-    }
-    asks
 }
 
 /// Spoils a sound call in every combination of faults. The list is in the order of the rows, so

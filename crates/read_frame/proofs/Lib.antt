@@ -1,4 +1,0 @@
-pub mod Sounds
-pub mod Due
-pub mod Fitting
-pub mod Answers
