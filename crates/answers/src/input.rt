@@ -8,7 +8,7 @@ use libc::STDIN_FILENO;
 use text::{least, within};
 
 // What is not yet answered stands in the window from index `from` to index `to`
-#[derive(Drop)]
+#[derive(Clone, Copy)]
 pub struct Held {
     pub from: usize,
     pub to: usize,

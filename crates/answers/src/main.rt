@@ -1,4 +1,6 @@
 // The calls that standard input asks for, a line each, with their answers on standard output (docs/ANSWERS.md).
+#![tactic(auto)]
+
 mod answering;
 mod fields;
 mod forms;

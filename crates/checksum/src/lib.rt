@@ -1,5 +1,7 @@
 // The checksum of octets and of a state. docs/SEQUENCES.md says how it is computed; it stays below 4,294,967,291, and a
 // list of no numbers has 0.
+#![tactic(auto)]
+
 use state::State;
 use state::numbers::{NUMBERS, numbers};
 

@@ -1,4 +1,6 @@
 // A frame's codewords on their way to a decoder's end: the reply that every end's call shares.
+#![tactic(auto)]
+
 ghost use Rattle.std.specs.Prelude.{◌≡◌};
 ghost use Rattle.replies.specs.Reply.{number_of};
 ghost use Rattle.codewords.specs.Decode.{decode_number};

@@ -8,7 +8,7 @@ use frame::header::{PLAIN, is_count, is_edition};
 use quantizer::pair::is_pair;
 
 // What they ask, and the place behind them
-#[derive(Drop)]
+#[derive(Clone, Copy)]
 pub struct Coding {
     pub good: bool,
     pub at: usize,

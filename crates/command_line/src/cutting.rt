@@ -6,7 +6,7 @@ use crate::words::{after, is_word, octet_of};
 use crate::wrong::wrong;
 
 // What they ask, and the place behind them
-#[derive(Drop)]
+#[derive(Clone, Copy)]
 pub struct Cut {
     pub good: bool,
     pub at: usize,

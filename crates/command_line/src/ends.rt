@@ -4,7 +4,7 @@ use crate::program::Program;
 use crate::words::{after, are_same, is_there, is_word};
 use crate::wrong::wrong;
 
-#[derive(Drop)]
+#[derive(Clone, Copy)]
 pub struct Ends {
     pub good: bool,
     pub input: usize,

@@ -10,7 +10,7 @@ pub const A: u8 = 1;
 
 pub const LINEAR: u8 = 2;
 
-#[derive(Drop)]
+#[derive(Clone, Copy)]
 pub struct Law {
     pub good: bool,
     pub value: u8,

@@ -1,6 +1,8 @@
 // The tool's words (docs/TOOL.md), read from the left into a task. The first wrong word is said, and then there is no task.
 // Which widths, pairs and counts there are is asked of the crates that the calls ask. The words of the other program,
 // `sequences`, are read in sequences.rt, out of the same kinds of word.
+#![tactic(auto)]
+
 pub mod coding;
 pub mod cutting;
 mod ends;
@@ -22,7 +24,7 @@ use crate::program::Program;
 use crate::words::{after, is_there, is_word};
 use crate::wrong::{missing, unknown, wrong};
 
-#[derive(Drop)]
+#[derive(Clone, Copy)]
 pub enum Command {
     Encode,
     Drop,
@@ -32,7 +34,7 @@ pub enum Command {
 
 // What the words ask. Files are the places of their words, 0 where there is none: standard input, standard output, no list,
 // no states.
-#[derive(Drop)]
+#[derive(Clone, Copy)]
 pub struct Task {
     pub good: bool,
     pub command: Command,

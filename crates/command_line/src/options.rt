@@ -4,7 +4,7 @@ use crate::program::Program;
 use crate::words::{after, is_word};
 
 // Those that are there, and the place behind them
-#[derive(Drop)]
+#[derive(Clone, Copy)]
 pub struct Options {
     pub good: bool,
     pub at: usize,

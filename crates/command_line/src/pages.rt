@@ -7,7 +7,7 @@ use libc::STDOUT_FILENO;
 use text::Line;
 
 // Where the first word asks for a page, the status that the program ends with
-#[derive(Drop)]
+#[derive(Clone, Copy)]
 pub enum Paged {
     Nothing,
     Ended(i32),

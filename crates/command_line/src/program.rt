@@ -1,7 +1,7 @@
 // The two programs whose words are read here: what each is called, and what it says where something fails.
 use text::Line;
 
-#[derive(Drop)]
+#[derive(Clone, Copy)]
 pub enum Program {
     Parchfennel,
     Sequences,

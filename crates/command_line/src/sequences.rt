@@ -6,7 +6,7 @@ use crate::program::Program;
 use crate::words::{after, is_there, is_word};
 use crate::wrong::{missing, unknown};
 
-#[derive(Drop)]
+#[derive(Clone, Copy)]
 pub enum Command {
     Read,
     Write,
@@ -15,7 +15,7 @@ pub enum Command {
 }
 
 // What the words ask. HOMING is the place of its word, 0 where there is none.
-#[derive(Drop)]
+#[derive(Clone, Copy)]
 pub struct Task {
     pub good: bool,
     pub command: Command,

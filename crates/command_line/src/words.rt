@@ -5,7 +5,7 @@ use libc::ENAMETOOLONG;
 use text::within;
 
 // A number of decimal digits. One above 9,999 is 9,999: every limit of the calls lies far below.
-#[derive(Drop)]
+#[derive(Clone, Copy)]
 pub struct Number {
     pub good: bool,
     pub value: usize,

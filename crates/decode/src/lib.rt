@@ -1,4 +1,6 @@
 // The call decode: the G.711 end of a decoder. Its reply, the work, the answer (specs/Decode.antt of codewords).
+#![tactic(auto)]
+
 ghost use Rattle.std.specs.Prelude.{◌≡◌, ◌*◌, ◌≤◌, length};
 ghost use Rattle.state.specs.InRange.{InRange};
 ghost use Rattle.sample.specs.End.{pcm};
@@ -15,7 +17,7 @@ use replies::{Reply, is_done, is_law};
 use sample::pcm::decode_byte;
 use state::{State, moved_on};
 
-#[derive(Drop)]
+#[derive(Clone, Copy)]
 pub struct DecodeAnswer {
     pub reply: Reply,
     pub octets: usize,
@@ -24,7 +26,7 @@ pub struct DecodeAnswer {
 }
 
 // What a run over a frame's codewords comes to.
-#[derive(Drop)]
+#[derive(Clone, Copy)]
 pub struct DecodedFrame {
     pub disagreements: usize,
     pub state: State,

@@ -1,4 +1,6 @@
 // The call decode_linear: the linear end of a decoder. Its reply, the work, the answer (specs/Decode.antt of codewords).
+#![tactic(auto)]
+
 ghost use Rattle.std.specs.Prelude.{◌≡◌, ◌*◌, ◌≤◌, length};
 ghost use Rattle.state.specs.InRange.{InRange};
 ghost use Rattle.sample.specs.End.{linear};
@@ -15,7 +17,7 @@ use replies::{Reply, is_done};
 use sample::signal::decode_sample;
 use state::{State, moved_on};
 
-#[derive(Drop)]
+#[derive(Clone, Copy)]
 pub struct DecodeLinearAnswer {
     pub reply: Reply,
     pub samples: usize,

@@ -1,4 +1,6 @@
 // The call drop_planes: its reply, the work, the answer (specs/Drop.antt).
+#![tactic(auto)]
+
 ghost use Rattle.std.specs.Prelude.{◌≡◌};
 ghost use Rattle.replies.specs.Reply.{number_of};
 ghost use Rattle.drop_planes.specs.Drop.{is_target, drop_number, Drops};
@@ -7,7 +9,7 @@ use frame::header::{Header, due_length, frame_reply, read_header};
 use frame::whole::{narrow, thin_frame};
 use replies::{Reply, is_done};
 
-#[derive(Drop)]
+#[derive(Clone, Copy)]
 pub struct DropAnswer {
     pub reply: Reply,
     pub octets: usize,

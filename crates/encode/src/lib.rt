@@ -1,4 +1,6 @@
 // The call encode: the G.711 end of an encoder. Its reply, the samples' levels, the answer (specs/Encode.antt of levels).
+#![tactic(auto)]
+
 ghost use Rattle.std.specs.Prelude.{◌≡◌, ◌≤◌, true, length};
 ghost use Rattle.sample.specs.End.{pcm};
 ghost use Rattle.replies.specs.Reply.{is_law, number_of};
@@ -11,7 +13,7 @@ use levels::{asked_reply, blank_levels, due_header, encode_levels, lent_reply};
 use replies::{Reply, is_done, is_law};
 use state::State;
 
-#[derive(Drop)]
+#[derive(Clone, Copy)]
 pub struct EncodeAnswer {
     pub reply: Reply,
     pub octets: usize,

@@ -1,4 +1,6 @@
 // The call encode_linear: the linear end of an encoder. Its reply, the samples' levels, the answer (specs/Encode.antt of levels).
+#![tactic(auto)]
+
 ghost use Rattle.std.specs.Prelude.{true, ◌≡◌, ◌≤◌, length};
 ghost use Rattle.sample.specs.End.{linear};
 ghost use Rattle.replies.specs.Reply.{number_of};
@@ -11,7 +13,7 @@ use linear::{is_level, level};
 use replies::{Reply, is_done};
 use state::State;
 
-#[derive(Drop)]
+#[derive(Clone, Copy)]
 pub struct EncodeLinearAnswer {
     pub reply: Reply,
     pub octets: usize,

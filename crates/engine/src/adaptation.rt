@@ -8,13 +8,13 @@ use scale::{filtd, filte, limb, mix};
 use speed::{filta, filtb, filtc, lima, subtc, triga};
 use state::memory::Memory;
 
-#[derive(Drop)]
+#[derive(Clone, Copy)]
 pub struct Scales {
     pub yup: u16,
     pub ylp: u32,
 }
 
-#[derive(Drop)]
+#[derive(Clone, Copy)]
 pub struct Speeds {
     pub dmsp: u16,
     pub dmlp: u16,

@@ -1,12 +1,14 @@
 // The engine that both ends share: what a memory foretells of the next sample, and the step of the memory, which goes by
 // the memory, the quantized difference and what the core codeword says to the adaptation. `step::advance` also takes the
 // estimate, which the memory fixes. So no enhancement bit can reach the predictor.
+#![tactic(auto)]
+
 pub mod adaptation;
 pub mod prediction;
 pub mod step;
 
 // What a memory foretells of the next sample
-#[derive(Drop)]
+#[derive(Clone, Copy)]
 pub struct Estimated {
     pub y: u16,
     pub se: u16,

@@ -11,7 +11,7 @@ use predictor::sums::{Estimate, accum, addb};
 use predictor::tone::tone;
 use state::memory::Memory;
 
-#[derive(Drop)]
+#[derive(Clone, Copy)]
 pub struct Poles {
     pub a1r: u16,
     pub a2r: u16,

@@ -1,4 +1,6 @@
 // How the calls are used, as the README shows it: a frame is encoded, loses two planes on the way, and is decoded.
+#![tactic(auto)]
+
 use decode::decode;
 use drop_planes::drop_planes;
 use encode::encode;

@@ -23,7 +23,7 @@ pub const MOST_GROUPS: u8 = 40;
 
 pub const MOST_SAMPLES: usize = MOST_GROUPS as usize * GROUP;
 
-#[derive(Drop)]
+#[derive(Clone, Copy)]
 pub struct Header {
     pub edition: u8,
     pub width: u8,

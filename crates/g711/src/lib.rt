@@ -1,6 +1,8 @@
 // G.711 as G.727 uses it: EXPAND (section 6.2.1), COMPRESS and SYNC's SP+ and SP- (section 6.2.10).
 // Sixteen levels make a segment, whose steps are twice as wide as those of the one before it, so that
 // no table is searched. Law 0 is mu-law, and any other reads as A-law.
+#![tactic(auto)]
+
 ghost use Rattle.std.specs.Prelude.{◌≡◌, ◌+◌, ◌-◌, ◌*◌, ◌/◌, ◌%◌, ◌^◌, ◌≤◌, ◌<◌, min, eqb, leb, get_or};
 ghost use Rattle.words.specs.Notation.{pick};
 ghost use Rattle.words.specs.Length.{bit_length};

@@ -1,4 +1,6 @@
 // A frame of levels encoded, whichever end they come from: the replies that every end's call shares, and the work.
+#![tactic(auto)]
+
 ghost use Rattle.std.specs.Prelude.{◌≡◌, ◌*◌, ◌/◌, ◌≤◌, length};
 ghost use Rattle.words.specs.First.{first};
 ghost use Rattle.quantizer.specs.Pair.{Pair};

@@ -1,5 +1,7 @@
 // The linear end: 16-bit signed samples on the scale of the levels that EXPAND gives, -8,192 to 8,191. A cast between signed and
 // unsigned takes no negative number, so these are negated on their way.
+#![tactic(auto)]
+
 ghost use Rattle.std.specs.Prelude.{true, ◌≡◌};
 ghost use Rattle.linear.specs.Linear.{is_level, SL, signed, held};
 

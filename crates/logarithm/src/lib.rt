@@ -1,5 +1,7 @@
 // From a level to the normalized logarithm of its difference, and back (G.727, sections 6.2.1, 6.2.2
 // and 6.2.4). G.726 has the same sub-blocks, but its ANTILOG puts DQ's sign a place higher, at 15.
+#![tactic(auto)]
+
 ghost use Rattle.std.specs.Prelude.{◌≡◌, ◌+◌, ◌%◌, ◌<◌};
 ghost use Rattle.logarithm.specs.Difference.{SUBTA};
 ghost use Rattle.logarithm.specs.Logarithm.{LOG, SUBTB, ADDA, ANTILOG};
@@ -8,7 +10,7 @@ use words::bits::bit_length;
 use words::choice::choose;
 use words::wrap::minus;
 
-#[derive(Drop)]
+#[derive(Clone, Copy)]
 pub struct Logged {
     pub dl: u16,
     pub ds: u16,

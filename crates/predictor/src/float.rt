@@ -7,7 +7,7 @@ use words::bits::bit_length;
 use words::choice::{choose, choose_wide};
 use words::wrap::minus;
 
-#[derive(Drop)]
+#[derive(Clone, Copy)]
 struct Floating {
     exp: u16,
     mant: u16,

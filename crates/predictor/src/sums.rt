@@ -6,13 +6,13 @@ ghost use Rattle.predictor.specs.Sums.{ACCUM, DQI, SEI, ADDB, ADDC};
 use words::choice::choose;
 use words::wrap::{minus, plus};
 
-#[derive(Drop)]
+#[derive(Clone, Copy)]
 pub struct Estimate {
     pub se: u16,
     pub sez: u16,
 }
 
-#[derive(Drop)]
+#[derive(Clone, Copy)]
 pub struct Sign {
     pub pk0: u16,
     pub sigpk: u16,

@@ -1,5 +1,7 @@
 // The quantizer of G.727 by width (sections 6.2.2 and 6.2.4 to 6.2.6, and the order of codewords of 6.2.10): decision
 // levels, output levels, and what the scale factor and the speed control read off a core codeword.
+#![tactic(auto)]
+
 pub mod adaptive;
 pub mod codeword;
 pub mod decision;
@@ -9,7 +11,7 @@ pub mod output;
 pub mod pair;
 
 // What RECONST gives: the sign and the logarithm of the quantized difference.
-#[derive(Drop)]
+#[derive(Clone, Copy)]
 pub struct Quantized {
     pub dqs: u16,
     pub dqln: u16,

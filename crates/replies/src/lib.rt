@@ -1,8 +1,10 @@
 // The replies that every call answers with, and their numbers; specs/Reply.antt has the number of each.
+#![tactic(auto)]
+
 ghost use Rattle.std.specs.Prelude.{◌≡◌, eqb};
 ghost use Rattle.replies.specs.Reply.{is_law, number_of};
 
-#[derive(Drop)]
+#[derive(Clone, Copy)]
 pub enum Reply {
     Done,
     Pair,

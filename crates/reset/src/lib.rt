@@ -1,4 +1,6 @@
 // The call reset: its reply and the state that it hands out (specs/Reset.antt).
+#![tactic(auto)]
+
 ghost use Rattle.std.specs.Prelude.{◌≡◌};
 ghost use Rattle.words.specs.Within.{within};
 ghost use Rattle.reset.specs.Reset.{Resets};
@@ -6,7 +8,7 @@ ghost use Rattle.reset.specs.Reset.{Resets};
 use replies::Reply;
 use state::State;
 
-#[derive(Drop)]
+#[derive(Clone, Copy)]
 pub struct ResetAnswer {
     pub reply: Reply,
     pub octets: usize,

@@ -18,14 +18,14 @@ use quantizer::adaptive::{codeword, difference};
 use quantizer::multiplier::{functf, functw};
 use state::memory::Memory;
 
-#[derive(Drop)]
+#[derive(Clone, Copy)]
 pub struct Encoded {
     pub codeword: u8,
     pub memory: Memory,
 }
 
 // The signal of the output path, with the scale factor and the estimate that it was made with
-#[derive(Drop)]
+#[derive(Clone, Copy)]
 pub struct Decoded {
     pub y: u16,
     pub se: u16,

@@ -17,7 +17,7 @@ use quantizer::adaptive::codeword;
 use quantizer::order::order;
 use state::memory::Memory;
 
-#[derive(Drop)]
+#[derive(Clone, Copy)]
 pub struct Played {
     pub byte: u8,
     pub disagreement: u8,

@@ -8,7 +8,7 @@ ghost use Rattle.sample.specs.Signal.{sampled_of};
 use crate::level::decode_level;
 use state::memory::Memory;
 
-#[derive(Drop)]
+#[derive(Clone, Copy)]
 pub struct Sampled {
     pub sample: i16,
     pub memory: Memory,

@@ -1,5 +1,7 @@
 // Quantizer scale factor adaptation (G.727, section 6.2.5): how the scale of the quantizer follows the
 // core codewords. G.726 has the same sub-blocks.
+#![tactic(auto)]
+
 ghost use Rattle.std.specs.Prelude.{◌≡◌, ◌≤◌, ◌<◌};
 ghost use Rattle.scale.specs.Scale.{FILTD, FILTE, LIMB, MIX};
 

@@ -6,7 +6,7 @@ ghost use Rattle.sequence.specs.Inner.{Puts};
 use crate::modular::remainder_of;
 use crate::step::step;
 
-#[derive(Drop)]
+#[derive(Clone, Copy)]
 pub enum Refusal {
     BadCharacter,
     LineTooLong,
@@ -15,7 +15,7 @@ pub enum Refusal {
 }
 
 // A refusal has a place, counted in characters from 0
-#[derive(Drop)]
+#[derive(Clone, Copy)]
 pub enum Verdict {
     Sound,
     Refused(Refusal, u64),
@@ -23,7 +23,7 @@ pub enum Verdict {
 
 // Between two characters: what was found wrong, where the line starts, how many characters of it were read, its last digit where that is
 // half a value, the value that is held back, and the sum of those that were handed out, modulo 255
-#[derive(Drop)]
+#[derive(Clone, Copy)]
 pub struct Reader {
     pub verdict: Verdict,
     pub line: u64,
@@ -35,7 +35,7 @@ pub struct Reader {
 }
 
 // The reader behind the characters that were taken, and how many values were written
-#[derive(Drop)]
+#[derive(Clone, Copy)]
 pub struct ReadAnswer {
     pub reader: Reader,
     pub taken: usize,

@@ -8,7 +8,7 @@ use crate::limits::{LINE_FEED, LONGEST};
 use crate::modular::added;
 use crate::reader::{Reader, Refusal, Verdict, is_refused};
 
-#[derive(Drop)]
+#[derive(Clone, Copy)]
 pub struct Stepped {
     pub reader: Reader,
     pub gives: bool,

@@ -13,7 +13,7 @@ use sample::pcm::{decode_byte, encode_byte};
 use state::memory::{Memory, reset_memory};
 
 // The law, the pair, and the memories of both ends
-#[derive(Drop)]
+#[derive(Clone, Copy)]
 pub struct Codec {
     pub law: u8,
     pub width: u8,
@@ -23,7 +23,7 @@ pub struct Codec {
 }
 
 // How many values were taken, and the codec behind them
-#[derive(Drop)]
+#[derive(Clone, Copy)]
 pub struct Made {
     pub codec: Codec,
     pub count: usize,

@@ -4,6 +4,8 @@
 // What the words ask is the crate `command_line`, how files are opened and read is `streams`, what a text is is `sequence`. One
 // loop goes over a stream, HOMING or standard input (work.rt), in pieces: its values are taken out (pieces.rt), go through the
 // codec (codec.rt) and are written (output.rt), as the stream asks (streaming.rt).
+#![tactic(auto)]
+
 mod codec;
 mod output;
 mod pieces;

@@ -11,7 +11,7 @@ use text::within;
 const ROOM: usize = 8448;
 
 // Whether it was written, and the writer behind it
-#[derive(Drop)]
+#[derive(Clone, Copy)]
 pub struct Output {
     pub good: bool,
     pub writer: Writer,

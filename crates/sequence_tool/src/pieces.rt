@@ -13,7 +13,7 @@ use text::within;
 
 // Between two pieces: whether there may be a next one, whether nothing went wrong, the text that is read, the text that is
 // written, and the codec
-#[derive(Drop)]
+#[derive(Clone, Copy)]
 pub struct Turn {
     pub more: bool,
     pub good: bool,
@@ -23,7 +23,7 @@ pub struct Turn {
 }
 
 // How many values something was made of, whether that was written, and what the next piece meets
-#[derive(Drop)]
+#[derive(Clone, Copy)]
 struct Worked {
     pub count: usize,
     pub good: bool,

@@ -4,7 +4,7 @@ use command_line::sequences::Command;
 use libc::STDIN_FILENO;
 use streams::reading::{Name, Source};
 
-#[derive(Drop)]
+#[derive(Clone, Copy)]
 pub enum Way {
     Read,
     Write,
@@ -15,7 +15,7 @@ pub enum Way {
 }
 
 // The word is HOMING's place, 0 for standard input
-#[derive(Drop)]
+#[derive(Clone, Copy)]
 pub struct Stream {
     pub way: Way,
     pub source: Source,

@@ -15,7 +15,7 @@ use streams::files::{hold_standard_streams, opened};
 use streams::reading::read_once;
 
 // Whether all was done, and the codec behind it
-#[derive(Drop)]
+#[derive(Clone, Copy)]
 struct Ran {
     pub good: bool,
     pub codec: Codec,

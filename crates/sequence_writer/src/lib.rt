@@ -1,4 +1,6 @@
 // Values written as the text of a test sequence, in pieces: one character at a time, so that any buffer will do.
+#![tactic(auto)]
+
 mod digits;
 
 ghost use Rattle.std.specs.Prelude.{◌≡◌, slice_index};
@@ -9,7 +11,7 @@ use sequence::limits::{LINE_FEED, LONGEST};
 use sequence::modular::{added, remainder_of};
 
 // What is written: values; the rest of their last line; the remainder's line; nothing more
-#[derive(Drop)]
+#[derive(Clone, Copy)]
 pub enum Stage {
     Values,
     Closing,
@@ -19,7 +21,7 @@ pub enum Stage {
 
 // Between two characters: how many of the line were written, the value whose second digit is due where that is one, and the sum of
 // all values, modulo 255
-#[derive(Drop)]
+#[derive(Clone, Copy)]
 pub struct Writer {
     pub stage: Stage,
     pub column: u8,
@@ -28,7 +30,7 @@ pub struct Writer {
 }
 
 // The writer behind the values that were taken, and how many characters were written
-#[derive(Drop)]
+#[derive(Clone, Copy)]
 pub struct WriteAnswer {
     pub writer: Writer,
     pub taken: usize,
@@ -102,7 +104,7 @@ pub fn write(from: Writer, values: &[u8], text: &mut [u8]) -> WriteAnswer
 }
 
 // A character, and the writer behind it
-#[derive(Drop)]
+#[derive(Clone, Copy)]
 struct Written {
     pub character: u8,
     pub writer: Writer,

@@ -1,5 +1,7 @@
 // Adaptation speed control (G.727, section 6.2.6): how quickly the scale factor may follow the core
 // codewords. G.726 has the same sub-blocks.
+#![tactic(auto)]
+
 ghost use Rattle.std.specs.Prelude.{◌≡◌, ◌<◌};
 ghost use Rattle.speed.specs.Speed.{FILTA, FILTB, FILTC, LIMA, SUBTC, TRIGA};
 

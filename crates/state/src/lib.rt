@@ -1,6 +1,8 @@
 // The state that an encoder and a decoder carry from frame to frame: the memory, which a step moves on, the core, which
 // nothing moves on, and the next number, which a frame that bears one moves on. A struct by value: a call takes one and
 // hands the next one back.
+#![tactic(auto)]
+
 pub mod memory;
 pub mod numbers;
 
@@ -11,7 +13,7 @@ ghost use Rattle.state.specs.Range.{in_range};
 
 use crate::memory::{Memory, memory_in_range, reset_memory, within};
 
-#[derive(Drop)]
+#[derive(Clone, Copy)]
 pub struct State {
     pub memory: Memory,
     pub core: u8,

@@ -5,7 +5,7 @@ ghost use Rattle.words.specs.Within.{within};
 ghost use Rattle.state.specs.Reset.{reset_memory};
 ghost use Rattle.state.specs.Range.{is_float_word, float_words, adaptation_in_range, signals_in_range, memory_in_range};
 
-#[derive(Drop)]
+#[derive(Clone, Copy)]
 pub struct Memory {
     pub yu: u16,
     pub yl: u32,

@@ -6,7 +6,7 @@ use libc::{EAGAIN, STDIN_FILENO};
 use text::{Line, least, within};
 
 // By what name a source is told of: an input is standard input where its descriptor is
-#[derive(Drop)]
+#[derive(Clone, Copy)]
 pub enum Name {
     Input,
     List,
@@ -14,7 +14,7 @@ pub enum Name {
 }
 
 // Where octets come from, and who says so where a read fails
-#[derive(Drop)]
+#[derive(Clone, Copy)]
 pub struct Source {
     pub program: Program,
     pub fd: i32,
@@ -22,7 +22,7 @@ pub struct Source {
 }
 
 // How many octets of the buffer there are, and whether nothing went wrong. None, and good, is the end of the stream.
-#[derive(Drop)]
+#[derive(Clone, Copy)]
 pub struct Read {
     pub count: usize,
     pub good: bool,

@@ -2,6 +2,8 @@
 // What has no room is left out; there is room enough for every line of the programs. It goes by value, since a buffer
 // that is lent from function to function makes the check dear (docs/ARCHITECTURE.md). It is written by the kit's io,
 // whose contracts are assumed. Beside it stand signed samples as the programs read and write them (samples.rt).
+#![tactic(auto)]
+
 pub mod samples;
 pub mod variables;
 
@@ -11,7 +13,7 @@ ghost use Rattle.io.specs.Counts.{IsPrefixLen};
 const ROOM: usize = 4096;
 
 // What is written at once: a line, or what a call has put into a buffer
-#[derive(Drop)]
+#[derive(Clone, Copy)]
 pub struct Line {
     pub octets: [u8; ROOM],
     pub count: usize,

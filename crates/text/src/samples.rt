@@ -7,7 +7,7 @@ use crate::{Line, least};
 use linear::read_signed;
 
 // Which octet of a pair comes first: the more significant one, or the other
-#[derive(Drop)]
+#[derive(Clone, Copy)]
 pub enum Order {
     HighFirst,
     LowFirst,

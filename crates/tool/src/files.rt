@@ -7,7 +7,7 @@ use streams::files::{hold_standard_streams, opened};
 const NONE: i32 = -1;
 
 // Descriptors; -1 for states that nobody asked for
-#[derive(Drop)]
+#[derive(Clone, Copy)]
 pub struct Files {
     pub good: bool,
     pub input: i32,

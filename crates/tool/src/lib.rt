@@ -4,6 +4,8 @@
 // What the words ask is the crate `command_line`. Files are opened (files.rt, list.rt) and read as the crate `streams` does it,
 // and one loop goes over the stream (work.rt, stream.rt), with what each command makes of a piece in a file of its own. How speech
 // stands in a stream is in speech.rt.
+#![tactic(auto)]
+
 mod decoding;
 mod dropping;
 mod encoding;

@@ -12,7 +12,7 @@ use streams::reading::{Name, Read, Source, read_part};
 use text::{Line, within};
 
 // How many widths there are, and the line that has something else, 0 where none has
-#[derive(Drop)]
+#[derive(Clone, Copy)]
 struct Gathered {
     pub count: usize,
     pub wrong: u64,

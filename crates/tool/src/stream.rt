@@ -13,7 +13,7 @@ use text::within;
 
 // How many octets of the buffer there are, whether nothing went wrong, and by how many samples they were filled up. None, and
 // good, is the end of the stream.
-#[derive(Drop)]
+#[derive(Clone, Copy)]
 pub struct Piece {
     pub count: usize,
     pub good: bool,

@@ -17,7 +17,7 @@ use state::State;
 use text::Line;
 
 // What a command makes of a piece: the call's answer, what is to be written, and the state that the next piece meets
-#[derive(Drop)]
+#[derive(Clone, Copy)]
 pub struct Made {
     pub reply: Reply,
     pub octets: Line,
@@ -36,7 +36,7 @@ pub fn answered(reply: Reply, out: [u8; 4096], count: usize, state: State) -> Ma
 
 // Between two pieces: whether there may be a next one, whether nothing went wrong, whether all was written that was made,
 // how many frames, octets of input and samples there were, and the state
-#[derive(Drop)]
+#[derive(Clone, Copy)]
 pub struct Turn {
     pub more: bool,
     pub good: bool,

@@ -16,7 +16,7 @@ use sample::pcm::{decode_byte, encode_byte};
 use state::memory::{Memory, reset_memory};
 
 // The memories of both ends, how many samples were counted, and the checksums of their codewords and of the decoder's octets
-#[derive(Drop)]
+#[derive(Clone, Copy)]
 pub struct Track {
     pub encoder: Memory,
     pub decoder: Memory,

@@ -19,7 +19,7 @@ pub const JUMP: usize = 6;
 // Where each file begins in the buffer, and where the last one ends
 const STARTS: [usize; 9] = [0, 16384, 32768, 34816, 36864, 40360, 43856, 47952, 52048];
 
-#[derive(Drop)]
+#[derive(Clone, Copy)]
 pub struct Part {
     pub from: usize,
     pub to: usize,

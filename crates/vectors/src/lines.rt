@@ -13,7 +13,7 @@ use state::{State, moved_on, reset};
 use text::Line;
 
 // Where a sample stands in a sequence, the octet that the encoder was given, and whether the sample is dumped
-#[derive(Drop)]
+#[derive(Clone, Copy)]
 pub struct Note {
     pub index: usize,
     pub coded: bool,

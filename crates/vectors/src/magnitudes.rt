@@ -13,7 +13,7 @@ const RUNS: [u32; 27] = [
 ];
 
 // A place in a run, counted from the run's first
-#[derive(Drop)]
+#[derive(Clone, Copy)]
 pub struct Spot {
     pub row: usize,
     pub at: usize,

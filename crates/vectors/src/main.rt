@@ -1,5 +1,7 @@
 // The test sequences of docs/SEQUENCES.md: with no argument a line of checksums for each of them, with the name of one
 // as the argument a line for each of its samples. The files of PCM octets are looked for in the folder it is run in.
+#![tactic(auto)]
+
 mod codewords;
 mod drive;
 mod inputs;

@@ -5,7 +5,7 @@ ghost use Rattle.quantizer.specs.Pair.{Pair};
 
 pub const RUNS: usize = 189;
 
-#[derive(Drop)]
+#[derive(Clone, Copy)]
 pub enum Kind {
     Normal,
     Overload,
@@ -14,7 +14,7 @@ pub enum Kind {
     Held,
 }
 
-#[derive(Drop)]
+#[derive(Clone, Copy)]
 pub struct Run {
     pub homed: bool,
     pub kind: Kind,

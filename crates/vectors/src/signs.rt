@@ -1,7 +1,7 @@
 // The signs of the I-inputs (docs/SEQUENCES.md): eight subsequences of 2,048 places, the same at every width. The last
 // two come from shift registers, which are 1 at the subsequence's first place.
 
-#[derive(Drop)]
+#[derive(Clone, Copy)]
 pub struct Sign {
     pub negative: bool,
     // for the next place
