@@ -11,26 +11,26 @@ use Rattle.linear.proofs.Signs.{same, negated_fits, one_less}
 use Rattle.linear.proofs.read_signed.Statement.{statement}
 use Rattle.linear.proofs.read_signed.Tie as tie
 
+returns-then-word-lt32768 : tie.Need-returns-then-word-lt32768
+unfolding signed
+returns-then-word-lt32768 c = to_z_pos w16 c.before.args.word c.if-word-lt32768.true ∙ rw (lt-ltb _ _ c.if-word-lt32768.true)
+
+small : (c : tie.Else-word-lt32768) → 65535 - c.before.args.word < 32768
+small c = omega (arith, c.if-word-lt32768.false, c.before.ranges.word.fits)
+
+overflow_sub-result-2 : tie.Need-overflow_sub-result-2
+overflow_sub-result-2 c = rw (to_z_pos w16 _ (small c)) (negated_fits _ (small c))
+
+overflow_sub-result-3 : tie.Need-overflow_sub-result-3
+overflow_sub-result-3 c = rw (to_z_pos w16 _ (small c), same _ (negated_fits _ (small c)), one_less (65535 - c.before.args.word)) (record { sfits = small c })
+
 returns : tie.Need-returns
 unfolding signed
-returns c = to_z_pos w16 c.before.args.word c.if1.true ∙ rw (lt-ltb _ _ c.if1.true)
-
-small : (c : tie.Else1) → 65535 - c.before.args.word < 32768
-small c = omega (arith, c.if1.false, c.before.ranges.word.fits)
-
-sub-result-2 : tie.Need-overflow-sub-result-2
-sub-result-2 c = rw (to_z_pos w16 _ (small c)) (negated_fits _ (small c))
-
-sub-result-3 : tie.Need-overflow-sub-result-3
-sub-result-3 c = rw (to_z_pos w16 _ (small c), same _ (negated_fits _ (small c)), one_less (65535 - c.before.args.word)) (record { sfits = small c })
-
-returns-2 : tie.Need-returns-2
-unfolding signed
-returns-2 c =
-    rw (to_z_pos w16 _ (small c), same _ (negated_fits _ (small c)), one_less (65535 - c.before.args.word), le-ltb _ _ c.if1.false)
+returns c =
+    rw (to_z_pos w16 _ (small c), same _ (negated_fits _ (small c)), one_less (65535 - c.before.args.word), le-ltb _ _ c.if-word-lt32768.false)
     (same _ (record { sfits = small c }))
 
 pub read_signed_spec : {M : Type 1} → statement M
 read_signed_spec =
     tie.close
-    (tie.spec (search rules) returns (search rules) (search rules) sub-result-2 sub-result-3 returns-2)
+    (tie.spec (search rules) returns-then-word-lt32768 (search rules) (search rules) overflow_sub-result-2 overflow_sub-result-3 returns)

@@ -6,7 +6,7 @@ use Rattle.linear.proofs.sample.Statement.{statement}
 use Rattle.linear.proofs.sample.Tie as tie
 
 returns : tie.Need-returns
-returns c = same _ (record { sfits = c.hold.type-inv }) ∙ c.hold.ensures ∙ rw (same _ (record { sfits = c.before.read-signed.type-inv }), c.before.read-signed.ensures)
+returns c = same _ (record { sfits = c.hold.type_inv }) ∙ c.hold.ensures ∙ rw (same _ (record { sfits = c.before.read_signed.type_inv }), c.before.read_signed.ensures)
 
 pub sample_spec : {M : Type 1} → statement M
 sample_spec = tie.close (tie.spec (search rules) (search rules) returns)

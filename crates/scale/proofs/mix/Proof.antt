@@ -7,9 +7,9 @@ use Rattle.scale.specs.Scale.{MIX}
 use Rattle.scale.proofs.mix.Statement.{statement}
 use Rattle.scale.proofs.mix.Tie as tie
 
-product : (c : tie.After-choose-wide) → c.choose-wide.result * c.before.args.al ≤ 16383 * 64
+product : (c : tie.After-choose_wide-difm) → c.choose_wide-difm.result * c.before.args.al ≤ 16383 * 64
 product c =
-    let difm : c.choose-wide.result ≤ 16383 = omega arith in
+    let difm : c.choose_wide-difm.result ≤ 16383 = omega arith in
     mul-le-mul difm c.before.requires.0
 
 pub mix_spec : {M : Type 1} → statement M

@@ -5,46 +5,46 @@ use Rattle.sequence.specs.Reading.{last_place}
 use Rattle.sequence.proofs.reader.last_place.Statement.{statement}
 use Rattle.sequence.proofs.reader.last_place.Tie as tie
 
-cast-values : tie.Need-overflow-cast-values
-cast-values c = search rules
+overflow_cast-values : tie.Need-overflow_cast-values
+overflow_cast-values c = search rules
 
-mul-wrapping-add-u64 : tie.Need-overflow-mul-wrapping-add-u64
-mul-wrapping-add-u64 c = search rules
+overflow_mul-values : tie.Need-overflow_mul-values
+overflow_mul-values c = search rules
 
-sub-wrapping-add-u64 : tie.Need-overflow-sub-wrapping-add-u64
-sub-wrapping-add-u64 c = search rules
+overflow_sub-values : tie.Need-overflow_sub-values
+overflow_sub-values c = search rules
 
-wrapping-add-u64-requires : tie.Need-wrapping-add-u64-requires
-wrapping-add-u64-requires c κs = search rules
+wrapping_add_u64-requires : tie.Need-wrapping_add_u64-requires
+wrapping_add_u64-requires c κs = search rules
 
-returns : tie.Need-returns
+returns-then-r-ge3 : tie.Need-returns-then-r-ge3
 unfolding last_place
-returns c = c.wrapping-add-u64.ensures ∙ rw (le-leb _ _ c.before.before.if1.true)
+returns-then-r-ge3 c = c.wrapping_add_u64.ensures ∙ rw (le-leb _ _ c.before.before.if-r-ge3.true)
 
 back-requires : tie.Need-back-requires
 back-requires c κs = search rules
 
-returns-2 : tie.Need-returns-2
+returns-then-r : tie.Need-returns-then-r
 unfolding last_place
-returns-2 c = c.back.ensures ∙ rw (lt-leb _ _ c.before.before.before.before.if1.false, c.before.if2.true)
+returns-then-r c = c.back.ensures ∙ rw (lt-leb _ _ c.before.before.before.before.if-r-ge3.false, c.before.if-r.true)
 
 back-requires-2 : tie.Need-back-requires-2
 back-requires-2 c κs = search rules
 
-returns-3 : tie.Need-returns-3
+returns : tie.Need-returns
 unfolding last_place
-returns-3 c = c.back2.ensures ∙ rw (lt-leb _ _ c.before.before.before.before.if1.false, c.before.if2.false)
+returns c = c.back-2.ensures ∙ rw (lt-leb _ _ c.before.before.before.before.if-r-ge3.false, c.before.if-r.false)
 
 pub last_place_spec : {M : Type 1} → statement M
 last_place_spec =
     tie.close
     (tie.spec
-    cast-values
-    mul-wrapping-add-u64
-    sub-wrapping-add-u64
-    wrapping-add-u64-requires
-    returns
+    overflow_cast-values
+    overflow_mul-values
+    overflow_sub-values
+    wrapping_add_u64-requires
+    returns-then-r-ge3
     back-requires
-    returns-2
+    returns-then-r
     back-requires-2
-    returns-3)
+    returns)

@@ -6,71 +6,71 @@ use Rattle.sequence.proofs.Going.{going_refused, going_full, going_more, going_d
 use Rattle.sequence.proofs.reader.read.Statement.{statement}
 use Rattle.sequence.proofs.reader.read.Tie as tie
 
-abbrev invariant_loop : tie.invariant_loop
-invariant_loop text values₀ r₀ taken₀ written₀ values r taken written = Midway reading r₀ text values₀ r taken written values
+abbrev invariant-loop-taken : tie.invariant-loop-taken
+invariant-loop-taken text values₀ r₀ taken₀ written₀ values r taken written = Midway reading r₀ text values₀ r taken written values
 
-abbrev decreases_loop : tie.decreases_loop
-decreases_loop text values₀ r₀ taken₀ written₀ values r taken written = length text - taken
+abbrev decreases-loop-taken : tie.decreases-loop-taken
+decreases-loop-taken text values₀ r₀ taken₀ written₀ values r taken written = length text - taken
 
-loop-holds : tie.Need-loop-init invariant_loop decreases_loop
-loop-holds c = midway_none _ _ _ _
+loop-taken-init : tie.Need-loop-taken-init invariant-loop-taken decreases-loop-taken
+loop-taken-init c = midway_none _ _ _ _
 
-shared-slice-read-step : tie.Need-shared-slice-read-step invariant_loop decreases_loop
-shared-slice-read-step c = omega arith
+bounds-text-taken : tie.Need-bounds-text-taken invariant-loop-taken decreases-loop-taken
+bounds-text-taken c = omega arith
 
-step-requires : tie.Need-step-requires invariant_loop decreases_loop
-step-requires c κs = search rules
+step-s-requires : tie.Need-step-s-requires invariant-loop-taken decreases-loop-taken
+step-s-requires c κs = search rules
 
-is-refused-requires : tie.Need-is-refused-requires invariant_loop decreases_loop
-is-refused-requires c κs = search rules
+is_refused-requires : tie.Need-is_refused-requires invariant-loop-taken decreases-loop-taken
+is_refused-requires c κs = search rules
 
-same_length : tie.Need-same-length invariant_loop decreases_loop
-same_length c = underway_size _ _ c.before.before.before.before.before.before.loop.invariant.under
+shape_of-values-then-is_refused : tie.Need-shape_of-values-then-is_refused invariant-loop-taken decreases-loop-taken
+shape_of-values-then-is_refused c = underway_size _ _ c.before.before.before.before.before.before.loop-taken.invariant.under
 
-returns : tie.Need-returns invariant_loop decreases_loop
-returns c = going_refused _ _ _ c.before.before.before.before.before.before.loop.invariant c.before.before.before.before.before.loop-test.true c.before.before.before.step.ensures (sym c.before.is-refused.ensures ∙ c.if1.true)
+returns-then-is_refused : tie.Need-returns-then-is_refused invariant-loop-taken decreases-loop-taken
+returns-then-is_refused c = going_refused _ _ _ c.before.before.before.before.before.before.loop-taken.invariant c.before.before.before.before.before.loop-taken-test.true c.before.before.before.step-s.ensures (sym c.before.is_refused.ensures ∙ c.if-is_refused.true)
 
-same-length-2 : tie.Need-same-length-2 invariant_loop decreases_loop
-same-length-2 c = underway_size _ _ c.before.before.before.before.before.before.before.before.loop.invariant.under
+shape_of-values-then-s-values : tie.Need-shape_of-values-then-s-values invariant-loop-taken decreases-loop-taken
+shape_of-values-then-s-values c = underway_size _ _ c.before.before.before.before.before.before.before.before.loop-taken.invariant.under
 
-returns-2 : tie.Need-returns-2 invariant_loop decreases_loop
-returns-2 c = going_full _ _ _ c.before.before.before.before.before.before.before.before.loop.invariant c.before.before.before.before.before.before.before.loop-test.true c.before.before.before.before.before.step.ensures (sym c.before.before.before.is-refused.ensures ∙ c.before.before.if1.false) c.if2.true
+returns-then-s-values : tie.Need-returns-then-s-values invariant-loop-taken decreases-loop-taken
+returns-then-s-values c = going_full _ _ _ c.before.before.before.before.before.before.before.before.loop-taken.invariant c.before.before.before.before.before.before.before.loop-taken-test.true c.before.before.before.before.before.step-s.ensures (sym c.before.before.before.is_refused.ensures ∙ c.before.before.if-is_refused.false) c.if-s-values.true
 
-put-requires : tie.Need-put-requires invariant_loop decreases_loop
-put-requires c κs = c.before.if2.false
+put-written-requires : tie.Need-put-written-requires invariant-loop-taken decreases-loop-taken
+put-written-requires c κs = c.before.if-s-values.false
 
-add-taken : tie.Need-overflow-add-taken invariant_loop decreases_loop
-add-taken c = omega arith
+overflow_add-taken : tie.Need-overflow_add-taken invariant-loop-taken decreases-loop-taken
+overflow_add-taken c = omega arith
 
-loop-less : tie.Need-loop-smaller invariant_loop decreases_loop
-loop-less c = omega arith
+loop-taken-smaller : tie.Need-loop-taken-smaller invariant-loop-taken decreases-loop-taken
+loop-taken-smaller c = omega arith
 
-loop-again : tie.Need-loop-preserved invariant_loop decreases_loop
-loop-again c = going_more _ _ _ c.before.before.before.before.before.before.before.before.before.before.before.before.loop.invariant c.before.before.before.before.before.before.before.before.before.before.before.loop-test.true c.before.before.before.before.before.before.before.before.before.step.ensures (sym c.before.before.before.before.before.before.before.is-refused.ensures ∙ c.before.before.before.before.before.before.if1.false) c.before.before.before.before.if2.false c.before.before.put.ensures
+loop-taken-preserved : tie.Need-loop-taken-preserved invariant-loop-taken decreases-loop-taken
+loop-taken-preserved c = going_more _ _ _ c.before.before.before.before.before.before.before.before.before.before.before.before.loop-taken.invariant c.before.before.before.before.before.before.before.before.before.before.before.loop-taken-test.true c.before.before.before.before.before.before.before.before.before.step-s.ensures (sym c.before.before.before.before.before.before.before.is_refused.ensures ∙ c.before.before.before.before.before.before.if-is_refused.false) c.before.before.before.before.if-s-values.false c.before.before.put-written.ensures
 
-same-length-3 : tie.Need-same-length-3 invariant_loop decreases_loop
-same-length-3 c = underway_size _ _ c.before.loop.invariant.under
+shape_of-values : tie.Need-shape_of-values invariant-loop-taken decreases-loop-taken
+shape_of-values c = underway_size _ _ c.before.loop-taken.invariant.under
 
-returns-3 : tie.Need-returns-3 invariant_loop decreases_loop
-returns-3 c = going_done _ _ _ c.before.loop.invariant c.loop-test.false
+returns : tie.Need-returns invariant-loop-taken decreases-loop-taken
+returns c = going_done _ _ _ c.before.loop-taken.invariant c.loop-taken-test.false
 
 pub read_spec : {M : Type 1} → statement M
 read_spec =
     tie.close
     (tie.spec
-    invariant_loop
-    decreases_loop
-    loop-holds
-    shared-slice-read-step
-    step-requires
-    is-refused-requires
-    same_length
-    returns
-    same-length-2
-    returns-2
-    put-requires
-    add-taken
-    loop-less
-    loop-again
-    same-length-3
-    returns-3)
+    invariant-loop-taken
+    decreases-loop-taken
+    loop-taken-init
+    bounds-text-taken
+    step-s-requires
+    is_refused-requires
+    shape_of-values-then-is_refused
+    returns-then-is_refused
+    shape_of-values-then-s-values
+    returns-then-s-values
+    put-written-requires
+    overflow_add-taken
+    loop-taken-smaller
+    loop-taken-preserved
+    shape_of-values
+    returns)
