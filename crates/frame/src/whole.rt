@@ -35,7 +35,7 @@ pub fn thin_frame(frame: &[u8], h: Header, w: u8, out: &mut [u8])
 {
     let thin = narrow(h, w);
     let n = due_length(thin);
-    bytes::copy(&frame[..n], out);
+    out[..n].copy_from_slice(&frame[..n]);
     write_header(thin, out);
 }
 

@@ -1,7 +1,6 @@
 // A line of output is a value: each method gives it back with more at its end, and the last one writes it as a whole.
 // What has no room is left out; there is room enough for every line of the programs. It goes by value, since a buffer
-// that is lent from function to function makes the check dear (docs/ARCHITECTURE.md). It is written by the kit's io,
-// whose contracts are assumed. Beside it stand signed samples as the programs read and write them (samples.rt).
+// that is lent from function to function makes the check dear (docs/ARCHITECTURE.md). Beside it stand signed samples as the programs read and write them (samples.rt).
 #![tactic(auto)]
 
 pub mod samples;
@@ -107,11 +106,11 @@ impl Line {
         self
     }
 
-    // In one write
-    pub fn write(self, fd: i32) -> bool {
+    // In one write. False where it failed
+    pub fn write(self, out: &impl Print) -> bool {
         let octets = self.octets;
         let n = within(self.count, &octets);
-        io::write_all(fd, &octets[..n])
+        out.write_all(&octets[..n]).is_ok()
     }
 }
 

@@ -6,7 +6,7 @@ use Rattle.g711.proofs.chord.Statement.{statement}
 use Rattle.g711.proofs.chord.Tie as tie
 
 returns : tie.Need-returns
-returns c = rw c.bit_length.ensures
+returns c = rw c.bit_length-segment.ensures
 
 pub chord_spec : {M : Type 1} → statement M
 chord_spec =

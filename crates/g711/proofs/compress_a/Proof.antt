@@ -10,27 +10,27 @@ use Rattle.g711.proofs.Decisions.{level_top}
 use Rattle.g711.proofs.compress_a.Statement.{statement}
 use Rattle.g711.proofs.compress_a.Tie as tie
 
-add-result : tie.Need-overflow-add-result
-add-result c = omega (arith, level_top false (c.before.before.args.sr / 2))
+overflow_add-result : tie.Need-overflow_add-result
+overflow_add-result c = omega (arith, level_top false (c.before.before.args.sr / 2))
 
-cast-result : tie.Need-overflow-cast-result
-cast-result c = omega (arith, level_top false (c.before.before.args.sr / 2))
+overflow_cast-result : tie.Need-overflow_cast-result
+overflow_cast-result c = omega (arith, level_top false (c.before.before.args.sr / 2))
+
+returns-then-sr-eq0 : tie.Need-returns-then-sr-eq0
+unfolding COMPRESS
+returns-then-sr-eq0 c = simp (eq-eqb _ _ c.before.if-sr-eq0.true, c.level_a.ensures)
+
+overflow_cast-result-2 : tie.Need-overflow_cast-result-2
+overflow_cast-result-2 c = omega (arith, level_top false c.before.less_one.result)
 
 returns : tie.Need-returns
 unfolding COMPRESS
-returns c = simp (eq-eqb _ _ c.before.if1.true, c.level-a.ensures)
-
-cast-result-2 : tie.Need-overflow-cast-result-2
-cast-result-2 c = omega (arith, level_top false c.before.less_one.result)
-
-returns-2 : tie.Need-returns-2
-unfolding COMPRESS
-returns-2 c =
+returns c =
     let negative : c.before.before.before.before.args.sr / 32768 ≡ 1 = omega arith in
     simp (
-      ne_eqb _ _ c.before.before.before.if1.false,
+      ne_eqb _ _ c.before.before.before.if-sr-eq0.false,
       eq-eqb _ _ negative,
-      c.level-a2.ensures,
+      c.level_a-2.ensures,
       c.before.less_one.ensures,
       c.before.before.magnitude.ensures,
     )
@@ -38,5 +38,5 @@ returns-2 c =
 pub compress_a_spec : {M : Type 1} → statement M
 compress_a_spec =
     tie.close
-    (tie.spec (search rules) add-result cast-result returns (search rules) (search rules)
-    (search rules) (search rules) cast-result-2 returns-2)
+    (tie.spec (search rules) overflow_add-result overflow_cast-result returns-then-sr-eq0 (search rules) (search rules)
+    (search rules) (search rules) overflow_cast-result-2 returns)

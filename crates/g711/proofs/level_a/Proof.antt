@@ -8,14 +8,14 @@ use Rattle.g711.proofs.Decisions.{level_is}
 use Rattle.g711.proofs.level_a.Statement.{statement}
 use Rattle.g711.proofs.level_a.Tie as tie
 
-returns : tie.Need-returns
-returns c = sym (rw (lt-ltb _ _ c.if1.true) at (level_is false c.before.args.imag))
+returns-then-imag-lt32 : tie.Need-returns-then-imag-lt32
+returns-then-imag-lt32 c = sym (rw (lt-ltb _ _ c.if-imag-lt32.true) at (level_is false c.before.args.imag))
 
-returns-2 : tie.Need-returns-2
-returns-2 c =
+returns : tie.Need-returns
+returns c =
     let start = c.before.before.before in
-    let far : ltb start.args.imag 32 ≡ false = le-ltb _ _ c.before.before.if1.false in
+    let far : ltb start.args.imag 32 ≡ false = le-ltb _ _ c.before.before.if-imag-lt32.false in
     rw (c.chord.ensures, c.before.at_most.ensures) (sym (rw far at (level_is false start.args.imag)))
 
 pub level_a_spec : {M : Type 1} → statement M
-level_a_spec = tie.close (tie.spec returns (search rules) (search rules) returns-2)
+level_a_spec = tie.close (tie.spec returns-then-imag-lt32 (search rules) (search rules) returns)

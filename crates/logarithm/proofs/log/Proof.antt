@@ -8,12 +8,12 @@ use Prim.Native.Nat.{◌≤◌}
 use Rattle.logarithm.proofs.log.Statement.{statement}
 use Rattle.logarithm.proofs.log.Tie as tie
 
-bits-few : (c : tie.After-bit-length) → c.bit_length.result ≤ 15
-bits-few c = rw c.bit_length.ensures (length_le 15 _ (omega arith) (omega arith))
+bits-few : (c : tie.After-bit_length-exp) → c.bit_length-exp.result ≤ 15
+bits-few c = rw c.bit_length-exp.ensures (length_le 15 _ (omega arith) (omega arith))
 
 returns : tie.Need-returns
 unfolding LOG
-returns c = rw (c.bit_length.ensures, c.before.choose.ensures.is, c.before.before.minus.ensures, mask_narrower)
+returns c = rw (c.bit_length-exp.ensures, c.before.choose-dqm.ensures.is, c.before.before.minus.ensures, mask_narrower)
 
 pub log_spec : {M : Type 1} → statement M
 log_spec =

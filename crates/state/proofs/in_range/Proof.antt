@@ -8,4 +8,4 @@ use Rattle.state.proofs.in_range.Tie as tie
 
 pub in_range_spec : {M : Type 1} → statement M
 unfolding in_range joined
-in_range_spec = tie.close (tie.spec (search rules) (search rules) (search rules) (λ c. rw (c.within.ensures, c.before.before.memory-in-range.ensures) (joined_every _ (_ ∷ []))))
+in_range_spec = tie.close (tie.spec (search rules) (search rules) (search rules) (λ c. rw (c.within.ensures, c.before.before.memory_in_range.ensures) (joined_every _ (_ ∷ []))))

@@ -6,4 +6,4 @@ use Rattle.state.proofs.reset.Tie as tie
 
 pub reset_spec : {M : Type 1} → statement M
 unfolding reset_of
-reset_spec = tie.close (tie.spec (search rules) (λ c. rw c.reset-memory.ensures))
+reset_spec = tie.close (tie.spec (search rules) (λ c. rw c.reset_memory.ensures))

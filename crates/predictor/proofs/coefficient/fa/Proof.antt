@@ -6,17 +6,17 @@ use Rattle.predictor.proofs.Held.{fa1_word}
 use Rattle.predictor.proofs.coefficient.fa.Statement.{statement}
 use Rattle.predictor.proofs.coefficient.fa.Tie as tie
 
-sub-choose-wide : tie.Need-overflow-sub-choose-wide
-sub-choose-wide c =
-    rw c.choose-wide3.ensures.is
-    (le_of_lt (fa1_word c.before.before.before.args.a1 c.before.before.choose-wide.ensures.small c.before.choose-wide2.ensures.small))
+overflow_sub-fa1 : tie.Need-overflow_sub-fa1
+overflow_sub-fa1 c =
+    rw c.choose_wide-fa1.ensures.is
+    (le_of_lt (fa1_word c.before.before.before.args.a1 c.before.before.choose_wide.ensures.small c.before.choose_wide-2.ensures.small))
 
 returns : tie.Need-returns
 unfolding FA
-returns c = rw (c.choose-wide4.ensures.is, c.before.choose-wide3.ensures.is, c.before.before.choose-wide2.ensures.is, c.before.before.before.choose-wide.ensures.is)
+returns c = rw (c.choose_wide-3.ensures.is, c.before.choose_wide-fa1.ensures.is, c.before.before.choose_wide-2.ensures.is, c.before.before.before.choose_wide.ensures.is)
 
 pub fa_spec : {M : Type 1} → statement M
 fa_spec =
     tie.close
     (tie.spec (search rules) (search rules) (search rules) (search rules) (search rules)
-    sub-choose-wide (search rules) returns)
+    overflow_sub-fa1 (search rules) returns)

@@ -16,7 +16,7 @@ unfolding UGA2
 returns c =
     let UGA2S = c.before.before.args.uga2b / 65536 in
     let bit : eqb UGA2S 0 ≡ false → eqb UGA2S 1 ≡ true = λ e. eq-eqb UGA2S 1 (omega (arith, eqb-false UGA2S 0 e)) in
-    rw (c.choose2.ensures.is, c.before.choose.ensures.is) (shared_else _ _ _ _ _ _ bit)
+    rw (c.choose-2.ensures.is, c.before.choose.ensures.is) (shared_else _ _ _ _ _ _ bit)
 
 pub uga2_spec : {M : Type 1} → statement M
 uga2_spec = tie.close (tie.spec (search rules) (search rules) (search rules) (search rules) returns)

@@ -7,7 +7,7 @@ use Rattle.predictor.proofs.coefficient.upb.Tie as tie
 
 returns : tie.Need-returns
 unfolding UPB
-returns c = rw (c.plus2.ensures, c.before.plus.ensures, c.before.before.ul.ensures, c.before.before.before.choose3.ensures.is, c.before.before.before.before.choose2.ensures.is, c.before.before.before.before.before.choose.ensures.is, shared_not)
+returns c = rw (c.plus-2.ensures, c.before.plus.ensures, c.before.before.ul.ensures, c.before.before.before.choose-ugbn.ensures.is, c.before.before.before.before.choose-2.ensures.is, c.before.before.before.before.before.choose.ensures.is, shared_not)
 
 pub upb_spec : {M : Type 1} → statement M
 upb_spec = tie.close (search (tie.spec, returns, rules))

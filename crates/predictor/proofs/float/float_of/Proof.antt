@@ -11,17 +11,17 @@ use Rattle.predictor.proofs.Mantissa.{mantissa_range}
 use Rattle.predictor.proofs.float.float_of.Statement.{statement}
 use Rattle.predictor.proofs.float.float_of.Tie as tie
 
-few : (c : tie.After-bit-length) → c.bit_length.result ≤ 16
-few c = rw c.bit_length.ensures (length_le 16 _ c.before.ranges.mag.fits c.before.ranges.mag.fits)
+few : (c : tie.After-bit_length-exp) → c.bit_length-exp.result ≤ 16
+few c = rw c.bit_length-exp.ensures (length_le 16 _ c.before.ranges.mag.fits c.before.ranges.mag.fits)
 
-is-mantissa : (c : tie.After-choose-wide) → c.choose-wide.result ≡ MANT c.before.before.args.mag
+is-mantissa : (c : tie.After-choose_wide-mant) → c.choose_wide-mant.result ≡ MANT c.before.before.args.mag
 unfolding MANT EXP
 is-mantissa c = cc
 
-mantissa : (c : tie.After-choose-wide) → Within 32 63 c.choose-wide.result
+mantissa : (c : tie.After-choose_wide-mant) → Within 32 63 c.choose_wide-mant.result
 mantissa c = rw (is-mantissa c) (mantissa_range _ c.before.before.ranges.mag.fits)
 
-same : (c : tie.After-choose-wide) → record { exp = c.before.bit_length.result; mant = c.choose-wide.result } ≡ float_of c.before.before.args.mag
+same : (c : tie.After-choose_wide-mant) → record { exp = c.before.bit_length-exp.result; mant = c.choose_wide-mant.result } ≡ float_of c.before.before.args.mag
 unfolding float_of EXP
 same c = cc (is-mantissa c)
 

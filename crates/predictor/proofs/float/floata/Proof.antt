@@ -7,7 +7,7 @@ use Rattle.predictor.proofs.float.floata.Tie as tie
 
 returns : tie.Need-returns
 unfolding FLOATA float_of
-returns c = rw c.before.before.float-of.ensures.is
+returns c = rw c.before.before.float_of-f.ensures.is
 
 pub floata_spec : {M : Type 1} → statement M
 floata_spec =

@@ -8,7 +8,7 @@ use Rattle.predictor.proofs.float.floatb.Tie as tie
 
 returns : tie.Need-returns
 unfolding FLOATB float_of
-returns c = rw (c.before.before.float-of.ensures.is, c.before.before.before.choose.ensures.is, c.before.before.before.before.minus.ensures, mask_narrower)
+returns c = rw (c.before.before.float_of-f.ensures.is, c.before.before.before.choose.ensures.is, c.before.before.before.before.minus.ensures, mask_narrower)
 
 pub floatb_spec : {M : Type 1} → statement M
 floatb_spec =

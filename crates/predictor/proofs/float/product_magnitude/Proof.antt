@@ -9,22 +9,22 @@ use Rattle.predictor.specs.Float.{WAnMAG}
 use Rattle.predictor.proofs.float.product_magnitude.Statement.{statement}
 use Rattle.predictor.proofs.float.product_magnitude.Tie as tie
 
-cast-result-2 : tie.Need-overflow-cast-result-2
-cast-result-2 c = omega (arith, shr_le (c.before.args.wanmant * 128) (26 - c.before.args.wanexp))
+overflow_cast-result-then-wanexp-le26-2 : tie.Need-overflow_cast-result-then-wanexp-le26-2
+overflow_cast-result-then-wanexp-le26-2 c = omega (arith, shr_le (c.before.args.wanmant * 128) (26 - c.before.args.wanexp))
 
-returns : tie.Need-returns
+returns-then-wanexp-le26 : tie.Need-returns-then-wanexp-le26
 unfolding WAnMAG
-returns c = simp (le-leb _ _ c.if1.true)
+returns-then-wanexp-le26 c = simp (le-leb _ _ c.if-wanexp-le26.true)
 
 wide : (WAnEXP WAnMANT : ℕ) → 26 < WAnEXP → WAnMAG WAnEXP WAnMANT ≡ WAnMANT * 128 * 2 ^ (WAnEXP - 26) % 32768
 unfolding WAnMAG
 wide WAnEXP WAnMANT h = simp (lt-leb _ _ h)
 
-returns-2 : tie.Need-returns-2
-returns-2 c = mod-mod-pow _ 17 15 ∙ sym (wide c.before.args.wanexp c.before.args.wanmant c.if1.false)
+returns : tie.Need-returns
+returns c = mod-mod-pow _ 17 15 ∙ sym (wide c.before.args.wanexp c.before.args.wanmant c.if-wanexp-le26.false)
 
 pub product_magnitude_spec : {M : Type 1} → statement M
 product_magnitude_spec =
     tie.close
-    (tie.spec (search rules) (search rules) (search rules) cast-result-2 returns (search rules)
-    (search rules) (search rules) (search rules) (search rules) returns-2)
+    (tie.spec (search rules) (search rules) (search rules) overflow_cast-result-then-wanexp-le26-2 returns-then-wanexp-le26 (search rules)
+    (search rules) (search rules) (search rules) (search rules) returns)

@@ -6,7 +6,7 @@ use Rattle.predictor.proofs.sums.accum.Tie as tie
 
 returns : tie.Need-returns
 unfolding ACCUM
-returns c = rw (c.plus7.ensures, c.before.plus6.ensures, c.before.before.plus5.ensures, c.before.before.before.plus4.ensures, c.before.before.before.before.plus3.ensures, c.before.before.before.before.before.plus2.ensures, c.before.before.before.before.before.before.plus.ensures)
+returns c = rw (c.plus-sei.ensures, c.before.plus-5.ensures, c.before.before.plus-sezi.ensures, c.before.before.before.plus-4.ensures, c.before.before.before.before.plus-3.ensures, c.before.before.before.before.before.plus-2.ensures, c.before.before.before.before.before.before.plus.ensures)
 
 pub accum_spec : {M : Type 1} → statement M
 accum_spec = tie.close (search (tie.spec, returns, rules))

@@ -12,11 +12,11 @@ word c = search rules
 
 subtb-requires : tie.Need-subtb-requires
 subtb-requires c κs =
-    let dl : c.log.result.dl ≤ 1919 = rw c.log.ensures (log_range _ (word c.before)) in
+    let dl : c.log-l.result.dl ≤ 1919 = rw c.log-l.ensures (log_range _ (word c.before)) in
     omega arith
 
 quan-requires : tie.Need-quan-requires
-quan-requires c κs = (rw c.subtb.ensures (normalized_word _ _), rw c.before.log.ensures (log_sign _ (word c.before.before)))
+quan-requires c κs = (rw c.subtb.ensures (normalized_word _ _), rw c.before.log-l.ensures (log_sign _ (word c.before.before)))
 
 pub codeword_spec : {M : Type 1} → statement M
 unfolding codeword

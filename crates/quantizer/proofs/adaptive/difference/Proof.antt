@@ -10,14 +10,14 @@ use Rattle.quantizer.proofs.adaptive.difference.Statement.{statement}
 use Rattle.quantizer.proofs.adaptive.difference.Tie as tie
 
 adda-requires : tie.Need-adda-requires
-adda-requires c κs = rw c.reconst.ensures (reconst_near c.before.requires.1).word
+adda-requires c κs = rw c.reconst-q.ensures (reconst_near c.before.requires.1).word
 
 antilog-requires : tie.Need-antilog-requires
 antilog-requires c κs =
     let code = c.before.before.requires.1 in
-    let scaled : (c.adda.result + 128) % 4096 ≤ 1864 = rw (c.adda.ensures, c.before.reconst.ensures) (difference_scaled code c.before.before.requires.0) in
+    let scaled : (c.adda.result + 128) % 4096 ≤ 1864 = rw (c.adda.ensures, c.before.reconst-q.ensures) (difference_scaled code c.before.before.requires.0) in
     let word : c.adda.result < 4096 = rw c.adda.ensures (scaled_word _ _) in
-    let sign : c.before.reconst.result.dqs < 2 = rw c.before.reconst.ensures (reconst_signed code) in
+    let sign : c.before.reconst-q.result.dqs < 2 = rw c.before.reconst-q.ensures (reconst_signed code) in
     omega arith
 
 pub difference_spec : {M : Type 1} → statement M

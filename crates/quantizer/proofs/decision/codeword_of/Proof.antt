@@ -7,21 +7,21 @@ use Rattle.quantizer.proofs.Thresholds.{reached_within}
 use Rattle.quantizer.proofs.decision.codeword_of.Statement.{statement}
 use Rattle.quantizer.proofs.decision.codeword_of.Tie as tie
 
-returns : tie.Need-returns
+returns-then-ds-eq0 : tie.Need-returns-then-ds-eq0
 unfolding coded
-returns c = simp (eq-eqb _ _ c.if1.true) c.before.count-reached.ensures
+returns-then-ds-eq0 c = simp (eq-eqb _ _ c.if-ds-eq0.true) c.before.count_reached-m.ensures
 
-sub-result : tie.Need-overflow-sub-result
-sub-result c =
+overflow_sub-result : tie.Need-overflow_sub-result
+overflow_sub-result c =
     let a = c.before.before.before.args in
     omega (arith, reached_within a.levels.now a.dln)
 
-returns-2 : tie.Need-returns-2
+returns : tie.Need-returns
 unfolding coded
-returns-2 c = simp (ne_eqb _ _ c.if1.false, c.before.count-reached.ensures)
+returns c = simp (ne_eqb _ _ c.if-ds-eq0.false, c.before.count_reached-m.ensures)
 
 pub codeword_of_spec : {M : Type 1} → statement M
 codeword_of_spec =
     tie.close
-    (tie.spec (search rules) returns (search rules) (search rules) (search rules) sub-result
-    returns-2)
+    (tie.spec (search rules) returns-then-ds-eq0 (search rules) (search rules) (search rules) overflow_sub-result
+    returns)

@@ -8,14 +8,14 @@ use Rattle.quantizer.proofs.Nesting.{by_levels, read_as_5}
 use Rattle.quantizer.proofs.decision.quan.Statement.{statement}
 use Rattle.quantizer.proofs.decision.quan.Tie as tie
 
-returns-4 : tie.Need-returns-4
+returns : tie.Need-returns
 unfolding levels begins entries decisions table8 table9 table10 table11
-returns-4 c =
+returns c =
     let start = c.before.before.before.before.before in
-    by_levels 5 tt refl c.codeword-of4.ensures start.requires
-    ∙ read_as_5 start.args.ds start.args.dln c.before.before.before.before.if1.false
-    c.before.before.before.if2.false
-    c.before.before.if3.false
+    by_levels 5 tt refl c.codeword_of-2.ensures start.requires
+    ∙ read_as_5 start.args.ds start.args.dln c.before.before.before.before.if-width-eq2.false
+    c.before.before.before.if-width-eq3.false
+    c.before.before.if-width-eq4.false
 
 pub quan_spec : {M : Type 1} → statement M
 unfolding levels begins entries decisions table8 table9 table10 table11
@@ -25,4 +25,4 @@ quan_spec =
     (search rules) (search rules) (λ c. search (by_levels 2 tt))
     (search rules) (search rules) (λ c. search (by_levels 3 tt))
     (search rules) (search rules) (λ c. search (by_levels 4 tt))
-    (search rules) (search rules) returns-4)
+    (search rules) (search rules) returns)

@@ -7,12 +7,12 @@ use Rattle.quantizer.specs.Output.{RECONST}
 use Rattle.quantizer.proofs.output.reconst.Statement.{statement}
 use Rattle.quantizer.proofs.output.reconst.Tie as tie
 
-cast-t5 : tie.Need-overflow-cast-t5
-cast-t5 c = omega (arith, shr_le c.args.i (c.args.width - 1))
+overflow_cast-result : tie.Need-overflow_cast-result
+overflow_cast-result c = omega (arith, shr_le c.args.i (c.args.width - 1))
 
 returns : tie.Need-returns
 unfolding RECONST
-returns c = λ k. record { dqs = (RECONST c.before.args.width c.before.args.i).dqs; dqln = c.dqln-of.ensures k }
+returns c = λ k. record { dqs = (RECONST c.before.args.width c.before.args.i).dqs; dqln = c.dqln_of.ensures k }
 
 pub reconst_spec : {M : Type 1} → statement M
-reconst_spec = tie.close (tie.spec (search rules) (search rules) cast-t5 (search rules) returns)
+reconst_spec = tie.close (tie.spec (search rules) (search rules) overflow_cast-result (search rules) returns)

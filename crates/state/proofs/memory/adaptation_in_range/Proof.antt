@@ -8,7 +8,7 @@ use Rattle.state.proofs.memory.adaptation_in_range.Tie as tie
 
 returns : tie.Need-returns
 unfolding adaptation_in_range joined
-returns c = rw (c.within5.ensures, c.before.before.within4.ensures, c.before.before.before.before.within3.ensures, c.before.before.before.before.before.before.within2.ensures, c.before.before.before.before.before.before.before.within.ensures) (joined_every _ (_ ∷ _ ∷ _ ∷ _ ∷ []))
+returns c = rw (c.within-5.ensures, c.before.before.within-4.ensures, c.before.before.before.before.within-3.ensures, c.before.before.before.before.before.before.within-2.ensures, c.before.before.before.before.before.before.before.within.ensures) (joined_every _ (_ ∷ _ ∷ _ ∷ _ ∷ []))
 
 pub adaptation_in_range_spec : {M : Type 1} → statement M
 adaptation_in_range_spec =

@@ -8,7 +8,7 @@ use Rattle.state.proofs.memory.float_words.Tie as tie
 
 returns : tie.Need-returns
 unfolding float_words joined
-returns c = rw (c.is-float-word6.ensures, c.before.is-float-word5.ensures, c.before.before.is-float-word4.ensures, c.before.before.before.is-float-word3.ensures, c.before.before.before.before.is-float-word2.ensures, c.before.before.before.before.before.is-float-word.ensures) (joined_every _ (_ ∷ _ ∷ _ ∷ _ ∷ _ ∷ []))
+returns c = rw (c.is_float_word-6.ensures, c.before.is_float_word-5.ensures, c.before.before.is_float_word-4.ensures, c.before.before.before.is_float_word-3.ensures, c.before.before.before.before.is_float_word-2.ensures, c.before.before.before.before.before.is_float_word.ensures) (joined_every _ (_ ∷ _ ∷ _ ∷ _ ∷ _ ∷ []))
 
 pub float_words_spec : {M : Type 1} → statement M
 float_words_spec = tie.close (search (tie.spec, returns, rules))

@@ -8,4 +8,4 @@ use Rattle.state.proofs.memory.memory_in_range.Tie as tie
 
 pub memory_in_range_spec : {M : Type 1} → statement M
 unfolding memory_in_range joined
-memory_in_range_spec = tie.close (tie.spec (search rules) (search rules) (λ c. rw (c.signals-in-range.ensures, c.before.adaptation-in-range.ensures) (joined_every _ (_ ∷ []))))
+memory_in_range_spec = tie.close (tie.spec (search rules) (search rules) (λ c. rw (c.signals_in_range.ensures, c.before.adaptation_in_range.ensures) (joined_every _ (_ ∷ []))))

@@ -8,7 +8,7 @@ use Rattle.state.proofs.memory.signals_in_range.Tie as tie
 
 returns : tie.Need-returns
 unfolding signals_in_range joined
-returns c = rw (c.within3.ensures, c.before.before.within2.ensures, c.before.before.before.before.within.ensures, c.before.before.before.before.before.before.is-float-word2.ensures, c.before.before.before.before.before.before.before.is-float-word.ensures, c.before.before.before.before.before.before.before.before.float-words.ensures) (joined_every _ (_ ∷ _ ∷ _ ∷ _ ∷ _ ∷ []))
+returns c = rw (c.within-3.ensures, c.before.before.within-2.ensures, c.before.before.before.before.within.ensures, c.before.before.before.before.before.before.is_float_word-2.ensures, c.before.before.before.before.before.before.before.is_float_word.ensures, c.before.before.before.before.before.before.before.before.float_words.ensures) (joined_every _ (_ ∷ _ ∷ _ ∷ _ ∷ _ ∷ []))
 
 pub signals_in_range_spec : {M : Type 1} → statement M
 signals_in_range_spec =

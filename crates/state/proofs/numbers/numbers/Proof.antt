@@ -17,30 +17,30 @@ returns c =
     λ i.
     adaptation.before.before.before.before.before.of_word.ensures i ∷
     s.memory.yl ∷
-    adaptation.before.before.before.before.of-word2.ensures i ∷
-    adaptation.before.before.before.of-word3.ensures i ∷
-    adaptation.before.before.of-word4.ensures i ∷
-    adaptation.before.of-word5.ensures i ∷
-    adaptation.of-word6.ensures i ∷
-    zeros.before.before.before.before.before.of-word7.ensures i ∷
-    zeros.before.before.before.before.of-word8.ensures i ∷
-    zeros.before.before.before.of-word9.ensures i ∷
-    zeros.before.before.of-word10.ensures i ∷
-    zeros.before.of-word11.ensures i ∷
-    zeros.of-word12.ensures i ∷
-    differences.before.before.before.before.before.of-word13.ensures i ∷
-    differences.before.before.before.before.of-word14.ensures i ∷
-    differences.before.before.before.of-word15.ensures i ∷
-    differences.before.before.of-word16.ensures i ∷
-    differences.before.of-word17.ensures i ∷
-    differences.of-word18.ensures i ∷
-    signals.before.before.before.before.of-word19.ensures i ∷
-    signals.before.before.before.of-word20.ensures i ∷
-    signals.before.before.of-word21.ensures i ∷
-    signals.before.of-word22.ensures i ∷
-    signals.of-word23.ensures i ∷
-    c.before.of-octet.ensures i ∷
-    c.of-octet2.ensures i ∷
+    adaptation.before.before.before.before.of_word-2.ensures i ∷
+    adaptation.before.before.before.of_word-3.ensures i ∷
+    adaptation.before.before.of_word-4.ensures i ∷
+    adaptation.before.of_word-5.ensures i ∷
+    adaptation.of_word-6.ensures i ∷
+    zeros.before.before.before.before.before.of_word-7.ensures i ∷
+    zeros.before.before.before.before.of_word-8.ensures i ∷
+    zeros.before.before.before.of_word-9.ensures i ∷
+    zeros.before.before.of_word-10.ensures i ∷
+    zeros.before.of_word-11.ensures i ∷
+    zeros.of_word-12.ensures i ∷
+    differences.before.before.before.before.before.of_word-13.ensures i ∷
+    differences.before.before.before.before.of_word-14.ensures i ∷
+    differences.before.before.before.of_word-15.ensures i ∷
+    differences.before.before.of_word-16.ensures i ∷
+    differences.before.of_word-17.ensures i ∷
+    differences.of_word-18.ensures i ∷
+    signals.before.before.before.before.of_word-19.ensures i ∷
+    signals.before.before.before.of_word-20.ensures i ∷
+    signals.before.before.of_word-21.ensures i ∷
+    signals.before.of_word-22.ensures i ∷
+    signals.of_word-23.ensures i ∷
+    c.before.of_octet.ensures i ∷
+    c.of_octet-2.ensures i ∷
     []
 
 pub numbers_spec : {M : Type 1} → statement M

@@ -9,63 +9,63 @@ use Rattle.state.proofs.Comparing.{Comparing, comparing_none, comparing_more, co
 use Rattle.state.proofs.numbers.same_state.Statement.{statement}
 use Rattle.state.proofs.numbers.same_state.Tie as tie
 
-abbrev invariant_loop : tie.invariant_loop
-invariant_loop these those i₀ i = Comparing these those i
+abbrev invariant-loop-i : tie.invariant-loop-i
+invariant-loop-i these those i₀ i = Comparing these those i
 
-abbrev decreases_loop : tie.decreases_loop
-decreases_loop these those i₀ i = count - i
+abbrev decreases-loop-i : tie.decreases-loop-i
+decreases-loop-i these those i₀ i = count - i
 
 -- both lists, as far as they are compared, have a number at each place
-within : (c : tie.In-loop invariant_loop decreases_loop) → (c.before.loop.i < length c.before.before.before.numbers.result) × (c.before.loop.i < length c.before.before.numbers2.result)
+within : (c : tie.In-loop-i invariant-loop-i decreases-loop-i) → (c.before.loop-i.i < length c.before.before.before.numbers-these.result) × (c.before.loop-i.i < length c.before.before.numbers-those.result)
 unfolding numbers_of
-within c = rw (c.before.before.before.numbers.ensures, c.before.before.numbers2.ensures) (c.loop-test.true, c.loop-test.true)
+within c = rw (c.before.before.before.numbers-these.ensures, c.before.before.numbers-those.ensures) (c.loop-i-test.true, c.loop-i-test.true)
 
-loop-holds : tie.Need-loop-init invariant_loop decreases_loop
-loop-holds c = comparing_none _ _
+loop-i-init : tie.Need-loop-i-init invariant-loop-i decreases-loop-i
+loop-i-init c = comparing_none _ _
 
-mul-if1 : tie.Need-overflow-mul-if1 invariant_loop decreases_loop
-mul-if1 c = omega arith
+offset_bounds-these-i : tie.Need-offset_bounds-these-i invariant-loop-i decreases-loop-i
+offset_bounds-these-i c = omega arith
 
-array-read-if1 : tie.Need-array-read-if1 invariant_loop decreases_loop
-array-read-if1 c = omega arith
+bounds-these-i : tie.Need-bounds-these-i invariant-loop-i decreases-loop-i
+bounds-these-i c = omega arith
 
-mul-if1-2 : tie.Need-overflow-mul-if1-2 invariant_loop decreases_loop
-mul-if1-2 c = omega arith
+offset_bounds-those-i : tie.Need-offset_bounds-those-i invariant-loop-i decreases-loop-i
+offset_bounds-those-i c = omega arith
 
-array-read-if1-2 : tie.Need-array-read-if1-2 invariant_loop decreases_loop
-array-read-if1-2 c = omega arith
+bounds-those-i : tie.Need-bounds-those-i invariant-loop-i decreases-loop-i
+bounds-those-i c = omega arith
 
-returns : tie.Need-returns invariant_loop decreases_loop
-returns c = rw (← c.before.before.before.before.numbers.ensures, ← c.before.before.before.numbers2.ensures) (sym (comparing_differs _ _ c.before.before.loop.invariant (within c.before).0 (within c.before).1 c.if1.true))
+returns-then-these-i : tie.Need-returns-then-these-i invariant-loop-i decreases-loop-i
+returns-then-these-i c = rw (← c.before.before.before.before.numbers-these.ensures, ← c.before.before.before.numbers-those.ensures) (sym (comparing_differs _ _ c.before.before.loop-i.invariant (within c.before).0 (within c.before).1 c.if-these-i.true))
 
-add-i : tie.Need-overflow-add-i invariant_loop decreases_loop
-add-i c = omega arith
+overflow_add-i : tie.Need-overflow_add-i invariant-loop-i decreases-loop-i
+overflow_add-i c = omega arith
 
-loop-less : tie.Need-loop-smaller invariant_loop decreases_loop
-loop-less c = omega arith
+loop-i-smaller : tie.Need-loop-i-smaller invariant-loop-i decreases-loop-i
+loop-i-smaller c = omega arith
 
-loop-again : tie.Need-loop-preserved invariant_loop decreases_loop
-loop-again c = comparing_more _ _ c.before.before.loop.invariant (within c.before).0 (within c.before).1 c.if1.false
+loop-i-preserved : tie.Need-loop-i-preserved invariant-loop-i decreases-loop-i
+loop-i-preserved c = comparing_more _ _ c.before.before.loop-i.invariant (within c.before).0 (within c.before).1 c.if-these-i.false
 
-returns-2 : tie.Need-returns-2 invariant_loop decreases_loop
+returns : tie.Need-returns invariant-loop-i decreases-loop-i
 unfolding numbers_of
-returns-2 c = sym (comparing_done _ _ (rw (c.before.before.before.numbers.ensures, c.before.before.numbers2.ensures) at c.before.loop.invariant) c.loop-test.false c.loop-test.false)
+returns c = sym (comparing_done _ _ (rw (c.before.before.before.numbers-these.ensures, c.before.before.numbers-those.ensures) at c.before.loop-i.invariant) c.loop-i-test.false c.loop-i-test.false)
 
 pub same_state_spec : {M : Type 1} → statement M
 same_state_spec =
     tie.close
     (tie.spec
-    invariant_loop
-    decreases_loop
+    invariant-loop-i
+    decreases-loop-i
     (search rules)
     (search rules)
-    loop-holds
-    mul-if1
-    array-read-if1
-    mul-if1-2
-    array-read-if1-2
-    returns
-    add-i
-    loop-less
-    loop-again
-    returns-2)
+    loop-i-init
+    offset_bounds-these-i
+    bounds-these-i
+    offset_bounds-those-i
+    bounds-those-i
+    returns-then-these-i
+    overflow_add-i
+    loop-i-smaller
+    loop-i-preserved
+    returns)
