@@ -4,7 +4,7 @@ ghost use Rattle.std.specs.Prelude.{◌≡◌, length};
 ghost use Rattle.io.specs.Counts.{IsPrefixLen};
 
 use crate::fields::until;
-use libc::STDIN_FILENO;
+use text::STDIN;
 use text::{least, within};
 
 // What is not yet answered stands in the window from index `from` to index `to`
@@ -72,7 +72,7 @@ pub fn refilled(held: Held, text: &mut [u8]) -> Held {
             done: false,
         };
     }
-    let got = io::read_full(STDIN_FILENO, &mut text[kept..]);
+    let got = io::read_full(STDIN, &mut text[kept..]);
     let to = kept + got;
     Held {
         from: 0,

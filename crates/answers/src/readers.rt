@@ -1,7 +1,7 @@
 // A reader's verdict, place and numbers between commas.
 use crate::fields::{has_part, number_in, part};
 use crate::places::{is_place, place_in, placed};
-use libc::STDOUT_FILENO;
+use text::STDOUT;
 use sequence::reader::{Reader, Refusal, Verdict};
 use text::Line;
 
@@ -56,11 +56,11 @@ pub fn say_reader(r: Reader) {
         .marked(b',', r.holds as u64)
         .marked(b',', r.held as u64)
         .marked(b',', r.sum as u64)
-        .write(STDOUT_FILENO);
+        .write(STDOUT);
 }
 
 pub fn say_verdict(verdict: Verdict) {
-    with_verdict(Line::empty(), verdict, b' ').write(STDOUT_FILENO);
+    with_verdict(Line::empty(), verdict, b' ').write(STDOUT);
 }
 
 // Its number, and its place behind the mark

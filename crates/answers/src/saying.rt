@@ -1,7 +1,7 @@
 // What is said on standard output, as it comes: a line, the fields of its answer each behind a space, what is wrong.
 ghost use Rattle.std.specs.Prelude.{◌<◌, ◌≤◌};
 
-use libc::STDOUT_FILENO;
+use text::STDOUT;
 use replies::{Reply, number_of};
 use state::State;
 use text::Line;
@@ -10,12 +10,12 @@ use text::Line;
 const PIECE: usize = 2048;
 
 pub fn say(words: &[u8]) {
-    io::write_all(STDOUT_FILENO, words);
+    io::write_all(STDOUT, words);
 }
 
 pub fn say_number(n: u64) {
     say(b" ");
-    io::print_decimal(STDOUT_FILENO, n);
+    io::print_decimal(STDOUT, n);
 }
 
 pub fn say_reply(reply: Reply, octets: usize) {
@@ -24,7 +24,7 @@ pub fn say_reply(reply: Reply, octets: usize) {
 }
 
 pub fn say_state(s: State) {
-    Line::empty().state(b' ', b',', s).write(STDOUT_FILENO);
+    Line::empty().state(b' ', b',', s).write(STDOUT);
 }
 
 // All octets, or - where there are none
@@ -53,7 +53,7 @@ fn end_of_piece(from: usize, length: usize) -> usize
 }
 
 fn say_piece(octets: &[u8]) {
-    Line::empty().digits(octets).write(STDOUT_FILENO);
+    Line::empty().digits(octets).write(STDOUT);
 }
 
 // A comment, in place of a line

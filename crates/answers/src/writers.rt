@@ -1,7 +1,7 @@
 // A writer's stage and numbers between commas.
 use crate::fields::has_part;
 use crate::readers::{number_at, octet_at};
-use libc::STDOUT_FILENO;
+use text::STDOUT;
 use sequence_writer::{Stage, Writer};
 use text::Line;
 
@@ -39,7 +39,7 @@ pub fn say_writer(w: Writer) {
         .marked(b',', w.column as u64)
         .marked(b',', w.value as u64)
         .marked(b',', w.sum as u64)
-        .write(STDOUT_FILENO);
+        .write(STDOUT);
 }
 
 fn number_of(stage: Stage) -> u64 {

@@ -4,11 +4,12 @@
 use decode::decode;
 use drop_planes::drop_planes;
 use encode::encode;
-use libc::STDOUT_FILENO;
 use replies::{Reply, number_of};
 use reset::reset;
 use state::State;
 use state::numbers::same_state;
+
+const STDOUT: i32 = 1;
 
 fn main() {
     let started = reset(2);
@@ -39,14 +40,14 @@ fn send(near: State, far: State) {
 
 fn compare(near: State, far: State) {
     if same_state(near, far) {
-        io::write_all(STDOUT_FILENO, b"both ends have the same state\n");
+        io::write_all(STDOUT, b"both ends have the same state\n");
     }
 }
 
 fn tell(call: &[u8], reply: Reply, octets: usize) {
-    io::write_all(STDOUT_FILENO, call);
-    io::print_decimal(STDOUT_FILENO, number_of(reply) as u64);
-    io::write_all(STDOUT_FILENO, b", octets ");
-    io::print_decimal(STDOUT_FILENO, octets as u64);
-    io::write_all(STDOUT_FILENO, b"\n");
+    io::write_all(STDOUT, call);
+    io::print_decimal(STDOUT, number_of(reply) as u64);
+    io::write_all(STDOUT, b", octets ");
+    io::print_decimal(STDOUT, octets as u64);
+    io::write_all(STDOUT, b"\n");
 }

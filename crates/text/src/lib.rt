@@ -1,6 +1,7 @@
 // A line of output is a value: each method gives it back with more at its end, and the last one writes it as a whole.
 // What has no room is left out; there is room enough for every line of the programs. It goes by value, since a buffer
-// that is lent from function to function makes the check dear (docs/ARCHITECTURE.md). Beside it stand signed samples as the programs read and write them (samples.rt).
+// that is lent from function to function makes the check dear (docs/ARCHITECTURE.md). It is written by the kit's io,
+// whose contracts are assumed. Beside it stand signed samples as the programs read and write them (samples.rt).
 #![tactic(auto)]
 
 pub mod samples;
@@ -8,6 +9,13 @@ pub mod variables;
 
 ghost use Rattle.std.specs.Prelude.{◌≤◌};
 ghost use Rattle.io.specs.Counts.{IsPrefixLen};
+
+// The numbers of the standard streams
+pub const STDIN: i32 = 0;
+
+pub const STDOUT: i32 = 1;
+
+pub const STDERR: i32 = 2;
 
 const ROOM: usize = 4096;
 
@@ -106,11 +114,11 @@ impl Line {
         self
     }
 
-    // In one write. False where it failed
-    pub fn write(self, out: &impl Print) -> bool {
+    // In one write
+    pub fn write(self, fd: i32) -> bool {
         let octets = self.octets;
         let n = within(self.count, &octets);
-        out.write_all(&octets[..n]).is_ok()
+        io::write_all(fd, &octets[..n])
     }
 }
 

@@ -5,43 +5,43 @@ use lib.ListN.{length}
 use Rattle.checksum.proofs.of_octets.Statement.{statement}
 use Rattle.checksum.proofs.of_octets.Tie as tie
 
-abbrev invariant_loop : tie.invariant_loop
-invariant_loop octets h₀ i₀ h i = i ≤ length octets
+abbrev invariant-loop-i : tie.invariant-loop-i
+invariant-loop-i octets h₀ i₀ h i = i ≤ length octets
 
-abbrev decreases_loop : tie.decreases_loop
-decreases_loop octets h₀ i₀ h i = length octets - i
+abbrev decreases-loop-i : tie.decreases-loop-i
+decreases-loop-i octets h₀ i₀ h i = length octets - i
 
-loop-holds : tie.Need-loop-init invariant_loop decreases_loop
-loop-holds c = omega arith
+loop-i-init : tie.Need-loop-i-init invariant-loop-i decreases-loop-i
+loop-i-init c = omega arith
 
-shared-slice-read-add-octet : tie.Need-shared-slice-read-add-octet invariant_loop decreases_loop
-shared-slice-read-add-octet c = omega arith
+bounds-octets-i : tie.Need-bounds-octets-i invariant-loop-i decreases-loop-i
+bounds-octets-i c = omega arith
 
-add-octet-requires : tie.Need-add-octet-requires invariant_loop decreases_loop
-add-octet-requires c κs = tt
+add_octet-h-requires : tie.Need-add_octet-h-requires invariant-loop-i decreases-loop-i
+add_octet-h-requires c κs = tt
 
-add-i : tie.Need-overflow-add-i invariant_loop decreases_loop
-add-i c = omega arith
+overflow_add-i : tie.Need-overflow_add-i invariant-loop-i decreases-loop-i
+overflow_add-i c = omega arith
 
-loop-less : tie.Need-loop-smaller invariant_loop decreases_loop
-loop-less c = omega arith
+loop-i-smaller : tie.Need-loop-i-smaller invariant-loop-i decreases-loop-i
+loop-i-smaller c = omega arith
 
-loop-again : tie.Need-loop-preserved invariant_loop decreases_loop
-loop-again c = omega arith
+loop-i-preserved : tie.Need-loop-i-preserved invariant-loop-i decreases-loop-i
+loop-i-preserved c = omega arith
 
-returns : tie.Need-returns invariant_loop decreases_loop
+returns : tie.Need-returns invariant-loop-i decreases-loop-i
 returns c = tt
 
 pub of_octets_spec : {M : Type 1} → statement M
 of_octets_spec =
     tie.close
     (tie.spec
-    invariant_loop
-    decreases_loop
-    loop-holds
-    shared-slice-read-add-octet
-    add-octet-requires
-    add-i
-    loop-less
-    loop-again
+    invariant-loop-i
+    decreases-loop-i
+    loop-i-init
+    bounds-octets-i
+    add_octet-h-requires
+    overflow_add-i
+    loop-i-smaller
+    loop-i-preserved
     returns)

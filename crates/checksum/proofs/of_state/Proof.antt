@@ -6,18 +6,18 @@ use Rattle.state.specs.Numbers.{count}
 use Rattle.checksum.proofs.of_state.Statement.{statement}
 use Rattle.checksum.proofs.of_state.Tie as tie
 
-abbrev invariant_loop : tie.invariant_loop
-invariant_loop values h₀ i₀ h i = i ≤ count
+abbrev invariant-loop-i : tie.invariant-loop-i
+invariant-loop-i values h₀ i₀ h i = i ≤ count
 
-abbrev decreases_loop : tie.decreases_loop
-decreases_loop values h₀ i₀ h i = count - i
+abbrev decreases-loop-i : tie.decreases-loop-i
+decreases-loop-i values h₀ i₀ h i = count - i
 
 pub of_state_spec : {M : Type 1} → statement M
 of_state_spec =
     tie.close
     (tie.spec
-    invariant_loop
-    decreases_loop
+    invariant-loop-i
+    decreases-loop-i
     (search rules)
     (λ c. omega arith)
     (λ c. omega arith)

@@ -5,12 +5,12 @@ use Rattle.engine.specs.Adaptation.{scales_of}
 use Rattle.engine.proofs.adaptation.next_scales.Statement.{statement}
 use Rattle.engine.proofs.adaptation.next_scales.Tie as tie
 
-limb-requires : tie.Need-limb-requires
-limb-requires c κs = rw c.filtd.ensures (filtd_word _ _)
+limb-yup-requires : tie.Need-limb-yup-requires
+limb-yup-requires c κs = rw c.filtd.ensures (filtd_word _ _)
 
 returns : tie.Need-returns
 unfolding scales_of
-returns c = rw (c.filte.ensures, c.before.limb.ensures, c.before.before.filtd.ensures)
+returns c = rw (c.filte.ensures, c.before.limb-yup.ensures, c.before.before.filtd.ensures)
 
 pub next_scales_spec : {M : Type 1} → statement M
-next_scales_spec = tie.close (tie.spec (search rules) limb-requires (search rules) returns)
+next_scales_spec = tie.close (tie.spec (search rules) limb-yup-requires (search rules) returns)

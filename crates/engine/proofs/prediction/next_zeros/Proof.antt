@@ -6,7 +6,7 @@ use Rattle.engine.proofs.prediction.next_zeros.Tie as tie
 
 returns : tie.Need-returns
 unfolding zeros_of
-returns c = rw (c.next-zero6.ensures, c.before.next-zero5.ensures, c.before.before.next-zero4.ensures, c.before.before.before.next-zero3.ensures, c.before.before.before.before.next-zero2.ensures, c.before.before.before.before.before.next-zero.ensures)
+returns c = rw (c.next_zero-6.ensures, c.before.next_zero-5.ensures, c.before.before.next_zero-4.ensures, c.before.before.before.next_zero-3.ensures, c.before.before.before.before.next_zero-2.ensures, c.before.before.before.before.before.next_zero.ensures)
 
 pub next_zeros_spec : {M : Type 1} → statement M
 next_zeros_spec = tie.close (search (tie.spec, returns, rules))

@@ -6,7 +6,7 @@ use Rattle.engine.proofs.prediction.signal_estimate.Tie as tie
 
 returns : tie.Need-returns
 unfolding predicted WA1 WA2 Wb
-returns c = rw (c.accum.ensures, c.before.fmult8.ensures, c.before.before.fmult7.ensures, c.before.before.before.fmult6.ensures, c.before.before.before.before.fmult5.ensures, c.before.before.before.before.before.fmult4.ensures, c.before.before.before.before.before.before.fmult3.ensures, c.before.before.before.before.before.before.before.fmult2.ensures, c.before.before.before.before.before.before.before.before.fmult.ensures)
+returns c = rw (c.accum.ensures, c.before.fmult-8.ensures, c.before.before.fmult-7.ensures, c.before.before.before.fmult-6.ensures, c.before.before.before.before.fmult-5.ensures, c.before.before.before.before.before.fmult-4.ensures, c.before.before.before.before.before.before.fmult-3.ensures, c.before.before.before.before.before.before.before.fmult-2.ensures, c.before.before.before.before.before.before.before.before.fmult.ensures)
 
 pub signal_estimate_spec : {M : Type 1} → statement M
 signal_estimate_spec = tie.close (search (tie.spec, returns, rules))

@@ -7,13 +7,13 @@ use Rattle.engine.proofs.Estimates.{y_is, se_is, sez_is, se_answered, sez_answer
 use Rattle.engine.proofs.step.advance.Statement.{statement}
 use Rattle.engine.proofs.step.advance.Tie as tie
 
-addc-requires : tie.Need-addc-requires
-addc-requires c κs =
+addc-sign-requires : tie.Need-addc-sign-requires
+addc-sign-requires c κs =
     let at = c.before in
     sez_answered at.args.m at.requires.1
 
-next-signal-requires : tie.Need-next-signal-requires
-next-signal-requires c κs =
+next_signal-requires : tie.Need-next_signal-requires
+next_signal-requires c κs =
     let at = c.before.before.before.before.before.before.before.before.before in
     se_answered at.args.m at.requires.1
 
@@ -26,13 +26,13 @@ returns c =
     let at = signed.before.before in
     let m = at.args.m in
     let y = y_is m at.requires.1 in
-    let tr = signed.before.trans.ensures in
-    let sign = rw (sez_is m at.requires.1) at signed.addc.ensures in
-    let poles = rw (sign, tr) at sped.before.before.next-poles.ensures in
-    let scales = rw y at sped.before.next-scales.ensures in
-    let speeds = rw (poles, tr, y) at sped.next-speeds.ensures in
-    let zeros = rw tr at zeroed.next-zeros.ensures in
-    let sr0 = rw (se_is m at.requires.1) at c.before.next-signal.ensures in
+    let tr = signed.before.trans-tr.ensures in
+    let sign = rw (sez_is m at.requires.1) at signed.addc-sign.ensures in
+    let poles = rw (sign, tr) at sped.before.before.next_poles-poles.ensures in
+    let scales = rw y at sped.before.next_scales-scales.ensures in
+    let speeds = rw (poles, tr, y) at sped.next_speeds-speeds.ensures in
+    let zeros = rw tr at zeroed.next_zeros-zeros.ensures in
+    let sr0 = rw (se_is m at.requires.1) at c.before.next_signal.ensures in
     let tdr = rw (poles, tr) at c.trigb.ensures in
     λ i. record {
       yu = (scales i).yup;
@@ -54,6 +54,6 @@ returns c =
 pub advance_spec : {M : Type 1} → statement M
 advance_spec =
     tie.close
-    (tie.spec (search rules) addc-requires (search rules) (search rules) (search rules)
+    (tie.spec (search rules) addc-sign-requires (search rules) (search rules) (search rules)
     (search rules) (search rules) (search rules) (search rules) (search rules) (search rules)
-    (search rules) next-signal-requires (search rules) returns)
+    (search rules) next_signal-requires (search rules) returns)
