@@ -7,17 +7,17 @@ use Rattle.frame.proofs.Headers.{header_short}
 use Rattle.frame.proofs.header.due_length.Statement.{statement}
 use Rattle.frame.proofs.header.due_length.Tie as tie
 
-product : (c : tie.After-struct-known2) → c.before.before.before.args.h.width * c.before.before.before.args.h.groups ≤ 255 * 255
+product : (c : tie.After-struct_known-2-1) → c.before.before.before.args.h.width * c.before.before.before.args.h.groups ≤ 255 * 255
 product c = mul-le-mul {n₂ = 255} {m₂ = 255} (omega arith) (omega arith)
 
-mul-result : tie.Need-overflow-mul-result
-mul-result c = omega (arith, product c)
+overflow_mul-result : tie.Need-overflow_mul-result
+overflow_mul-result c = omega (arith, product c)
 
-add-result : tie.Need-overflow-add-result
-add-result c = omega (arith, product c, c.before.before.header-length.ensures, header_short c.before.before.before.args.h.edition)
+overflow_add-result : tie.Need-overflow_add-result
+overflow_add-result c = omega (arith, product c, c.before.before.header_length.ensures, header_short c.before.before.before.args.h.edition)
 
 returns : tie.Need-returns
-returns c = rw c.before.before.header-length.ensures
+returns c = rw c.before.before.header_length.ensures
 
 pub due_length_spec : {M : Type 1} → statement M
 due_length_spec =
@@ -26,6 +26,6 @@ due_length_spec =
     (search rules)
     (search rules)
     (search rules)
-    mul-result
-    add-result
+    overflow_mul-result
+    overflow_add-result
     returns)

@@ -10,36 +10,36 @@ use Rattle.frame.proofs.header.header_reply.Statement.{statement}
 use Rattle.frame.proofs.header.header_reply.Tie as tie
 
 -- what holds behind each test
-known : (c : tie.Else1) → is_edition c.before.before.args.h.edition ≡ true
-known c = sym c.before.is-edition.ensures ∙ not-false _ c.if1.false
+known : (c : tie.Else-not-is_edition) → is_edition c.before.before.args.h.edition ≡ true
+known c = sym c.before.is_edition.ensures ∙ c.if-not-is_edition.false
 
-paired : (c : tie.Else2) → is_pair c.before.before.before.before.args.h.width c.before.before.before.before.args.h.core ≡ true
-paired c = sym c.before.is-pair.ensures ∙ not-false _ c.if2.false
+paired : (c : tie.Else-not-is_pair) → is_pair c.before.before.before.before.args.h.width c.before.before.before.before.args.h.core ≡ true
+paired c = sym c.before.is_pair.ensures ∙ c.if-not-is_pair.false
+
+returns-then-not-is_edition : tie.Need-returns-then-not-is_edition
+unfolding first
+returns-then-not-is_edition c = rw (sym c.before.is_edition.ensures ∙ c.if-not-is_edition.true)
+
+returns-then-not-is_pair : tie.Need-returns-then-not-is_pair
+unfolding first
+returns-then-not-is_pair c = rw (known c.before.before, sym c.before.is_pair.ensures ∙ c.if-not-is_pair.true)
+
+returns-then-not-is_groups : tie.Need-returns-then-not-is_groups
+unfolding first
+returns-then-not-is_groups c = rw (known c.before.before.before.before, paired c.before.before, sym c.before.is_groups.ensures ∙ c.if-not-is_groups.true)
 
 returns : tie.Need-returns
 unfolding first
-returns c = rw (sym c.before.is-edition.ensures ∙ not-true _ c.if1.true)
-
-returns-2 : tie.Need-returns-2
-unfolding first
-returns-2 c = rw (known c.before.before, sym c.before.is-pair.ensures ∙ not-true _ c.if2.true)
-
-returns-3 : tie.Need-returns-3
-unfolding first
-returns-3 c = rw (known c.before.before.before.before, paired c.before.before, sym c.before.is-groups.ensures ∙ not-true _ c.if3.true)
-
-returns-4 : tie.Need-returns-4
-unfolding first
-returns-4 c = rw (known c.before.before.before.before, paired c.before.before, sym c.before.is-groups.ensures ∙ not-false _ c.if3.false)
+returns c = rw (known c.before.before.before.before, paired c.before.before, sym c.before.is_groups.ensures ∙ c.if-not-is_groups.false)
 
 pub header_reply_spec : {M : Type 1} → statement M
 header_reply_spec =
     tie.close
     (tie.spec
     (search rules)
-    returns
+    returns-then-not-is_edition
     (search rules)
-    returns-2
+    returns-then-not-is_pair
     (search rules)
-    returns-3
-    returns-4)
+    returns-then-not-is_groups
+    returns)

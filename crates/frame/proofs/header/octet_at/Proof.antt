@@ -5,8 +5,8 @@ use lib.ListN.{get_or-eq_default}
 use Rattle.frame.proofs.header.octet_at.Statement.{statement}
 use Rattle.frame.proofs.header.octet_at.Tie as tie
 
-returns-2 : tie.Need-returns-2
-returns-2 c = sym (get_or-eq_default c.before.args.frame.now 0 c.if1.false)
+returns : tie.Need-returns
+returns c = sym (get_or-eq_default c.before.args.frame.now 0 c.if-i-frame.false)
 
 pub octet_at_spec : {M : Type 1} → statement M
-octet_at_spec = tie.close (tie.spec (search rules) (search rules) returns-2)
+octet_at_spec = tie.close (tie.spec (search rules) (search rules) returns)

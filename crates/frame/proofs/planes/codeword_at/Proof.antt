@@ -7,66 +7,66 @@ use Rattle.frame.proofs.Collecting.{Collecting, collecting_none, collecting_with
 use Rattle.frame.proofs.planes.codeword_at.Statement.{statement}
 use Rattle.frame.proofs.planes.codeword_at.Tie as tie
 
-abbrev invariant_loop : tie.invariant_loop
-invariant_loop body x g k place there₀ left₀ at₀ there left at = (place ≡ 7 - k % group) × Collecting body x g k left at there
+abbrev invariant-loop-left : tie.invariant-loop-left
+invariant-loop-left body x g k place there₀ left₀ at₀ there left at = (place ≡ 7 - k % group) × Collecting body x g k left at there
 
-abbrev decreases_loop : tie.decreases_loop
-decreases_loop body x g k place there₀ left₀ at₀ there left at = left
+abbrev decreases-loop-left : tie.decreases-loop-left
+decreases-loop-left body x g k place there₀ left₀ at₀ there left at = left
 
-sub-place : tie.Need-overflow-sub-place invariant_loop decreases_loop
-sub-place c = omega arith
+overflow_sub-place : tie.Need-overflow_sub-place invariant-loop-left decreases-loop-left
+overflow_sub-place c = omega arith
 
-cast-place : tie.Need-overflow-cast-place invariant_loop decreases_loop
-cast-place c = omega arith
+overflow_cast-place : tie.Need-overflow_cast-place invariant-loop-left decreases-loop-left
+overflow_cast-place c = omega arith
 
-loop-holds : tie.Need-loop-init invariant_loop decreases_loop
-loop-holds c = (refl, collecting_none _ _ _ _)
+loop-left-init : tie.Need-loop-left-init invariant-loop-left decreases-loop-left
+loop-left-init c = (refl, collecting_none _ _ _ _)
 
-shared-slice-read-shift-in : tie.Need-shared-slice-read-shift-in invariant_loop decreases_loop
-shared-slice-read-shift-in c =
+bounds-body-at : tie.Need-bounds-body-at invariant-loop-left decreases-loop-left
+bounds-body-at c =
     let at = c.before.before.before.before in
-    omega (arith, collecting_within _ _ _ _ c.before.before.loop.invariant.1 c.before.loop-test.true at.requires.1, at.requires.2)
+    omega (arith, collecting_within _ _ _ _ c.before.before.loop-left.invariant.1 c.before.loop-left-test.true at.requires.1, at.requires.2)
 
-shift-in-requires : tie.Need-shift-in-requires invariant_loop decreases_loop
-shift-in-requires c κs =
+shift_in-there-requires : tie.Need-shift_in-there-requires invariant-loop-left decreases-loop-left
+shift_in-there-requires c κs =
     let at = c.before.before.before.before in
-    let place = c.before.before.loop.invariant.0 in
-    (collecting_room _ _ _ _ c.before.before.loop.invariant.1 c.before.loop-test.true at.requires.0, omega arith)
+    let place = c.before.before.loop-left.invariant.0 in
+    (collecting_room _ _ _ _ c.before.before.loop-left.invariant.1 c.before.loop-left-test.true at.requires.0, omega arith)
 
-add_at : tie.Need-overflow-add-at invariant_loop decreases_loop
-add_at c =
+overflow_add-at : tie.Need-overflow_add-at invariant-loop-left decreases-loop-left
+overflow_add-at c =
     let at = c.before.before.before.before.before in
-    let q = c.before.before.before.loop.invariant.1 in
-    let more = c.before.before.loop-test.true in
-    omega (arith, collecting_within _ _ _ _ q more at.requires.1, collecting_plane _ _ _ _ q more, at.requires.2, at.well-formed)
+    let q = c.before.before.before.loop-left.invariant.1 in
+    let more = c.before.before.loop-left-test.true in
+    omega (arith, collecting_within _ _ _ _ q more at.requires.1, collecting_plane _ _ _ _ q more, at.requires.2, at.well_formed)
 
-sub-left : tie.Need-overflow-sub-left invariant_loop decreases_loop
-sub-left c = omega arith
+overflow_sub-left : tie.Need-overflow_sub-left invariant-loop-left decreases-loop-left
+overflow_sub-left c = omega arith
 
-loop-less : tie.Need-loop-smaller invariant_loop decreases_loop
-loop-less c = omega arith
+loop-left-smaller : tie.Need-loop-left-smaller invariant-loop-left decreases-loop-left
+loop-left-smaller c = omega arith
 
-loop-again : tie.Need-loop-preserved invariant_loop decreases_loop
-loop-again c =
-    let inv = c.before.before.before.loop.invariant in
-    (inv.0, collecting_more _ _ _ _ inv.1 c.before.before.loop-test.true (rw inv.0 at c.shift_in.ensures))
+loop-left-preserved : tie.Need-loop-left-preserved invariant-loop-left decreases-loop-left
+loop-left-preserved c =
+    let inv = c.before.before.before.loop-left.invariant in
+    (inv.0, collecting_more _ _ _ _ inv.1 c.before.before.loop-left-test.true (rw inv.0 at c.shift_in-there.ensures))
 
-returns : tie.Need-returns invariant_loop decreases_loop
-returns c = collecting_done _ _ _ _ c.before.loop.invariant.1 c.loop-test.false
+returns : tie.Need-returns invariant-loop-left decreases-loop-left
+returns c = collecting_done _ _ _ _ c.before.loop-left.invariant.1 c.loop-left-test.false
 
 pub codeword_at_spec : {M : Type 1} → statement M
 codeword_at_spec =
     tie.close
     (tie.spec
-    invariant_loop
-    decreases_loop
-    sub-place
-    cast-place
-    loop-holds
-    shared-slice-read-shift-in
-    shift-in-requires
-    add_at
-    sub-left
-    loop-less
-    loop-again
+    invariant-loop-left
+    decreases-loop-left
+    overflow_sub-place
+    overflow_cast-place
+    loop-left-init
+    bounds-body-at
+    shift_in-there-requires
+    overflow_add-at
+    overflow_sub-left
+    loop-left-smaller
+    loop-left-preserved
     returns)

@@ -6,47 +6,47 @@ use Rattle.frame.proofs.Gathering.{Gathering, gathering_none, gathering_room, ga
 use Rattle.frame.proofs.planes.octet.Statement.{statement}
 use Rattle.frame.proofs.planes.octet.Tie as tie
 
-abbrev invariant_loop : tie.invariant_loop
-invariant_loop codewords at b there₀ i₀ there i = Gathering codewords at b i there
+abbrev invariant-loop-i : tie.invariant-loop-i
+invariant-loop-i codewords at b there₀ i₀ there i = Gathering codewords at b i there
 
-abbrev decreases_loop : tie.decreases_loop
-decreases_loop codewords at b there₀ i₀ there i = group - i
+abbrev decreases-loop-i : tie.decreases-loop-i
+decreases-loop-i codewords at b there₀ i₀ there i = group - i
 
-loop-holds : tie.Need-loop-init invariant_loop decreases_loop
-loop-holds c = gathering_none _ _ _
+loop-i-init : tie.Need-loop-i-init invariant-loop-i decreases-loop-i
+loop-i-init c = gathering_none _ _ _
 
-add-shift-in : tie.Need-overflow-add-shift-in invariant_loop decreases_loop
-add-shift-in c = omega arith
+overflow_add-at : tie.Need-overflow_add-at invariant-loop-i decreases-loop-i
+overflow_add-at c = omega arith
 
-shared-slice-read-shift-in : tie.Need-shared-slice-read-shift-in invariant_loop decreases_loop
-shared-slice-read-shift-in c = omega arith
+bounds-codewords-at : tie.Need-bounds-codewords-at invariant-loop-i decreases-loop-i
+bounds-codewords-at c = omega arith
 
-shift-in-requires : tie.Need-shift-in-requires invariant_loop decreases_loop
-shift-in-requires c κs = (gathering_room _ _ _ c.before.before.loop.invariant c.before.loop-test.true, c.before.before.before.before.requires.1)
+shift_in-there-requires : tie.Need-shift_in-there-requires invariant-loop-i decreases-loop-i
+shift_in-there-requires c κs = (gathering_room _ _ _ c.before.before.loop-i.invariant c.before.loop-i-test.true, c.before.before.before.before.requires.1)
 
-add-i : tie.Need-overflow-add-i invariant_loop decreases_loop
-add-i c = omega arith
+overflow_add-i : tie.Need-overflow_add-i invariant-loop-i decreases-loop-i
+overflow_add-i c = omega arith
 
-loop-less : tie.Need-loop-smaller invariant_loop decreases_loop
-loop-less c = omega arith
+loop-i-smaller : tie.Need-loop-i-smaller invariant-loop-i decreases-loop-i
+loop-i-smaller c = omega arith
 
-loop-again : tie.Need-loop-preserved invariant_loop decreases_loop
-loop-again c = gathering_more _ _ _ c.before.before.before.loop.invariant c.before.before.loop-test.true c.shift_in.ensures
+loop-i-preserved : tie.Need-loop-i-preserved invariant-loop-i decreases-loop-i
+loop-i-preserved c = gathering_more _ _ _ c.before.before.before.loop-i.invariant c.before.before.loop-i-test.true c.shift_in-there.ensures
 
-returns : tie.Need-returns invariant_loop decreases_loop
-returns c = gathering_done _ _ _ c.before.loop.invariant c.loop-test.false
+returns : tie.Need-returns invariant-loop-i decreases-loop-i
+returns c = gathering_done _ _ _ c.before.loop-i.invariant c.loop-i-test.false
 
 pub octet_spec : {M : Type 1} → statement M
 octet_spec =
     tie.close
     (tie.spec
-    invariant_loop
-    decreases_loop
-    loop-holds
-    add-shift-in
-    shared-slice-read-shift-in
-    shift-in-requires
-    add-i
-    loop-less
-    loop-again
+    invariant-loop-i
+    decreases-loop-i
+    loop-i-init
+    overflow_add-at
+    bounds-codewords-at
+    shift_in-there-requires
+    overflow_add-i
+    loop-i-smaller
+    loop-i-preserved
     returns)

@@ -8,57 +8,57 @@ use Rattle.frame.proofs.Sizes.{plane_length, plane_at}
 use Rattle.frame.proofs.planes.write_plane.Statement.{statement}
 use Rattle.frame.proofs.planes.write_plane.Tie as tie
 
-abbrev invariant_loop : tie.invariant_loop
-invariant_loop codewords b out₀ g j₀ out j = Filled out₀ (plane g b codewords) g j out
+abbrev invariant-loop-j : tie.invariant-loop-j
+invariant-loop-j codewords b out₀ g j₀ out j = Filled out₀ (plane g b codewords) g j out
 
-abbrev decreases_loop : tie.decreases_loop
-decreases_loop codewords b out₀ g j₀ out j = g - j
+abbrev decreases-loop-j : tie.decreases-loop-j
+decreases-loop-j codewords b out₀ g j₀ out j = g - j
 
-loop-holds : tie.Need-loop-init invariant_loop decreases_loop
-loop-holds c = filled_none _ _ _ (plane_length _ _ _) c.before.before.requires.0
+loop-j-init : tie.Need-loop-j-init invariant-loop-j decreases-loop-j
+loop-j-init c = filled_none _ _ _ (plane_length _ _ _) c.before.before.requires.0
 
-mul-octet : tie.Need-overflow-mul-octet invariant_loop decreases_loop
-mul-octet c = omega (arith, c.before.before.before.before.well-formed)
+overflow_mul-j : tie.Need-overflow_mul-j invariant-loop-j decreases-loop-j
+overflow_mul-j c = omega (arith, c.before.before.before.before.well_formed)
 
-octet-requires : tie.Need-octet-requires invariant_loop decreases_loop
+octet-requires : tie.Need-octet-requires invariant-loop-j decreases-loop-j
 octet-requires c κs =
     let at = c.before.before.before.before in
     (omega arith, at.requires.1)
 
-slice-write-out : tie.Need-slice-write-out invariant_loop decreases_loop
-slice-write-out c =
-    let f = c.before.before.loop.invariant in
+bounds-out-j : tie.Need-bounds-out-j invariant-loop-j decreases-loop-j
+bounds-out-j c =
+    let f = c.before.before.loop-j.invariant in
     omega arith
 
-add-j : tie.Need-overflow-add-j invariant_loop decreases_loop
-add-j c = omega (arith, c.before.before.before.before.before.well-formed)
+overflow_add-j : tie.Need-overflow_add-j invariant-loop-j decreases-loop-j
+overflow_add-j c = omega (arith, c.before.before.before.before.before.well_formed)
 
-loop-less : tie.Need-loop-smaller invariant_loop decreases_loop
-loop-less c = omega arith
+loop-j-smaller : tie.Need-loop-j-smaller invariant-loop-j decreases-loop-j
+loop-j-smaller c = omega arith
 
-loop-again : tie.Need-loop-preserved invariant_loop decreases_loop
-loop-again c =
-    let more = c.before.loop-test.true in
-    filled_more _ _ _ 0 c.before.before.loop.invariant more (c.octet.ensures ∙ sym (plane_at _ _ _ _ more))
+loop-j-preserved : tie.Need-loop-j-preserved invariant-loop-j decreases-loop-j
+loop-j-preserved c =
+    let more = c.before.loop-j-test.true in
+    filled_more _ _ _ 0 c.before.before.loop-j.invariant more (c.octet.ensures ∙ sym (plane_at _ _ _ _ more))
 
-same_length : tie.Need-same-length invariant_loop decreases_loop
-same_length c = c.before.loop.invariant.size
+shape_of-out : tie.Need-shape_of-out invariant-loop-j decreases-loop-j
+shape_of-out c = c.before.loop-j.invariant.size
 
-returns : tie.Need-returns invariant_loop decreases_loop
-returns c = filled_all _ _ _ c.before.loop.invariant c.loop-test.false
+returns : tie.Need-returns invariant-loop-j decreases-loop-j
+returns c = filled_all _ _ _ c.before.loop-j.invariant c.loop-j-test.false
 
 pub write_plane_spec : {M : Type 1} → statement M
 write_plane_spec =
     tie.close
     (tie.spec
-    invariant_loop
-    decreases_loop
-    loop-holds
-    mul-octet
+    invariant-loop-j
+    decreases-loop-j
+    loop-j-init
+    overflow_mul-j
     octet-requires
-    slice-write-out
-    add-j
-    loop-less
-    loop-again
-    same_length
+    bounds-out-j
+    overflow_add-j
+    loop-j-smaller
+    loop-j-preserved
+    shape_of-out
     returns)

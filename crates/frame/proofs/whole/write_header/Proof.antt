@@ -12,39 +12,39 @@ use Rattle.frame.proofs.whole.write_header.Tie as tie
 fields : (c : tie.Start) → fewest ≤ length c.args.out.now
 fields c = omega (arith, c.requires.1, fields_there c.args.h.edition)
 
-slice-write-out : tie.Need-slice-write-out
-slice-write-out c = omega (arith, fields c.before.before)
+bounds-out-0 : tie.Need-bounds-out-0
+bounds-out-0 c = omega (arith, fields c.before.before)
 
-slice-write-out-2 : tie.Need-slice-write-out-2
-slice-write-out-2 c = simp length-set (omega (arith, fields c.before.before))
+bounds-out-1 : tie.Need-bounds-out-1
+bounds-out-1 c = simp length-set (omega (arith, fields c.before.before))
 
-slice-write-out-3 : tie.Need-slice-write-out-3
+bounds-out-2 : tie.Need-bounds-out-2
 unfolding header_length
-slice-write-out-3 c =
+bounds-out-2 c =
     let at = c.before.before.before.before in
-    let long = rw (sym c.before.is-numbered.ensures ∙ c.if1.true) at at.requires.1 in
+    let long = rw (sym c.before.is_numbered.ensures ∙ c.if-is_numbered.true) at at.requires.1 in
     simp length-set (omega arith)
 
-returns : tie.Need-returns
-returns c =
+returns-then-is_numbered : tie.Need-returns-then-is_numbered
+returns-then-is_numbered c =
     let at = c.before.before.before.before in
-    rw c.before.before.head.ensures (number_stored at.args.h at.args.out.now at.requires.1 (sym c.before.is-numbered.ensures ∙ c.if1.true))
+    rw c.before.before.head.ensures (number_stored at.args.h at.args.out.now at.requires.1 (sym c.before.is_numbered.ensures ∙ c.if-is_numbered.true))
 
-returns-2 : tie.Need-returns-2
-returns-2 c =
+returns-else-is_numbered : tie.Need-returns-else-is_numbered
+returns-else-is_numbered c =
     let at = c.before.before.before.before in
-    rw c.before.before.head.ensures (fields_stored at.args.h at.args.out.now at.requires.1 (sym c.before.is-numbered.ensures ∙ c.if1.false))
+    rw c.before.before.head.ensures (fields_stored at.args.h at.args.out.now at.requires.1 (sym c.before.is_numbered.ensures ∙ c.if-is_numbered.false))
 
 pub write_header_spec : {M : Type 1} → statement M
 write_header_spec =
     tie.close
     (tie.spec
     (search rules)
-    slice-write-out
-    slice-write-out-2
+    bounds-out-0
+    bounds-out-1
     (search rules)
-    slice-write-out-3
+    bounds-out-2
     (search rules)
-    returns
+    returns-then-is_numbered
     (search rules)
-    returns-2)
+    returns-else-is_numbered)

@@ -6,11 +6,11 @@ use Rattle.sample.proofs.Adjusting.{stays}
 use Rattle.sample.proofs.pcm.adjusted.Statement.{statement}
 use Rattle.sample.proofs.pcm.adjusted.Tie as tie
 
-returns : tie.Need-returns
-returns c = sym (stays _ _ (ap (IM _) c.if1.true))
+returns-then-j-i : tie.Need-returns-then-j-i
+returns-then-j-i c = sym (stays _ _ (ap (IM _) c.if-j-i.true))
 
-returns-2 : tie.Need-returns-2
-returns-2 c = rw (c.moved-byte.ensures, c.before.order2.ensures, c.before.before.order.ensures)
+returns : tie.Need-returns
+returns c = rw (c.moved_byte.ensures, c.before.order-2.ensures, c.before.before.order.ensures)
 
 pub adjusted_spec : {M : Type 1} → statement M
-adjusted_spec = tie.close (tie.spec returns (search rules) (search rules) (search rules) returns-2)
+adjusted_spec = tie.close (tie.spec returns-then-j-i (search rules) (search rules) (search rules) returns)

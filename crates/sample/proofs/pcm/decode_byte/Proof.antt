@@ -11,25 +11,25 @@ use Rattle.sample.proofs.Adjusting.{requantized_codeword, moved_by_places, disag
 use Rattle.sample.proofs.pcm.decode_byte.Statement.{statement}
 use Rattle.sample.proofs.pcm.decode_byte.Tie as tie
 
-requantized-requires : tie.Need-requantized-requires
+requantized-j-requires : tie.Need-requantized-j-requires
 unfolding decode_of
-requantized-requires c κs =
+requantized-j-requires c κs =
     let at = c.before.before in
-    rw c.before.decode-level.ensures (y_range at.args.m at.requires.0, se_word at.args.m)
+    rw c.before.decode_level-d.ensures (y_range at.args.m at.requires.0, se_word at.args.m)
 
-adjusted-requires : tie.Need-adjusted-requires
-adjusted-requires c κs =
+adjusted-sd-requires : tie.Need-adjusted-sd-requires
+adjusted-sd-requires c κs =
     let received = c.before.before.before.requires.2 in
-    (rw c.requantized.ensures (requantized_codeword _ _ _ _ _ (width_of received)), received)
+    (rw c.requantized-j.ensures (requantized_codeword _ _ _ _ _ (width_of received)), received)
 
 -- what each of the two says of the byte that COMPRESS gave: the move is SYNC's, and a disagreement is that of the codewords
-moved : (c : tie.After-adjusted) → c.adjusted.result ≡ SD c.before.before.before.before.args.law c.before.before.before.before.args.width c.before.before.before.decode-level.result.y c.before.before.before.decode-level.result.se c.before.before.before.before.args.i c.before.before.compress.result
-moved c = c.adjusted.ensures ∙ rw c.before.requantized.ensures (moved_by_places _ _ _ _ _ (width_of c.before.before.before.before.requires.2) _)
+moved : (c : tie.After-adjusted-sd) → c.adjusted-sd.result ≡ SD c.before.before.before.before.args.law c.before.before.before.before.args.width c.before.before.before.decode_level-d.result.y c.before.before.before.decode_level-d.result.se c.before.before.before.before.args.i c.before.before.compress-sp.result
+moved c = c.adjusted-sd.ensures ∙ rw c.before.requantized-j.ensures (moved_by_places _ _ _ _ _ (width_of c.before.before.before.before.requires.2) _)
 
-apart : (c : tie.After-requantized) → pick (eqb c.requantized.result c.before.before.before.args.i) 0 1 ≡ disagreement c.before.before.before.args.law c.before.before.before.args.width c.before.before.decode-level.result.y c.before.before.decode-level.result.se c.before.before.before.args.i c.before.compress.result
+apart : (c : tie.After-requantized-j) → pick (eqb c.requantized-j.result c.before.before.before.args.i) 0 1 ≡ disagreement c.before.before.before.args.law c.before.before.before.args.width c.before.before.decode_level-d.result.y c.before.before.decode_level-d.result.se c.before.before.before.args.i c.before.compress-sp.result
 apart c =
     let received = c.before.before.before.requires.2 in
-    rw c.requantized.ensures (disagreement_is _ _ _ _ _ (width_of received) received)
+    rw c.requantized-j.ensures (disagreement_is _ _ _ _ _ (width_of received) received)
 
 returns : tie.Need-returns
 unfolding play_of
@@ -37,8 +37,8 @@ returns c =
     let adjusting = c.before.before in
     let called = adjusting.before in
     let counted = c.differs.ensures ∙ apart called in
-    rw (counted, moved adjusting, called.before.compress.ensures, called.before.before.decode-level.ensures)
+    rw (counted, moved adjusting, called.before.compress-sp.ensures, called.before.before.decode_level-d.ensures)
 
 pub decode_byte_spec : {M : Type 1} → statement M
 decode_byte_spec =
-    tie.close (tie.spec (search rules) (search rules) requantized-requires adjusted-requires (search rules) returns)
+    tie.close (tie.spec (search rules) (search rules) requantized-j-requires adjusted-sd-requires (search rules) returns)

@@ -4,11 +4,11 @@ use Rattle.g711.proofs.Extent.{expand_lt}
 use Rattle.sample.proofs.pcm.encode_byte.Statement.{statement}
 use Rattle.sample.proofs.pcm.encode_byte.Tie as tie
 
-encode-level-requires : tie.Need-encode-level-requires
-encode-level-requires c κs = (c.before.requires.0, c.before.requires.1, rw c.expand.ensures (expand_lt _ _))
+encode_level-requires : tie.Need-encode_level-requires
+encode_level-requires c κs = (c.before.requires.0, c.before.requires.1, rw c.expand.ensures (expand_lt _ _))
 
 returns : tie.Need-returns
-returns c = rw (c.encode-level.ensures, c.before.expand.ensures)
+returns c = rw (c.encode_level.ensures, c.before.expand.ensures)
 
 pub encode_byte_spec : {M : Type 1} → statement M
-encode_byte_spec = tie.close (tie.spec (search rules) encode-level-requires returns)
+encode_byte_spec = tie.close (tie.spec (search rules) encode_level-requires returns)
