@@ -1,10 +1,12 @@
 -- `codewords::decode_reply` meets its contract, row by row; the frame's own rows are passed on.
+use mathlib.Core.Bool.{not}
+use mathlib.Core.Path.{ap}
 use borrow.Author.Rules.{rules}
 use mathlib.Core.Bool.{true, false}
 use mathlib.Core.Path.{◌≡◌, sym, ◌∙◌}
 use Prim.Native.Nat.{ℕ}
 use lib.Dec.{eqb}
-use borrow.Author.Tests.{lt-ltb, le-ltb, not-true, not-false}
+use borrow.Author.Tests.{lt-ltb, le-ltb, eq-eqb, ne_eqb}
 use Rattle.words.specs.First.{first}
 use Rattle.words.proofs.First.{NoneApplies, first_says}
 use Rattle.state.specs.Range.{in_range}
@@ -17,31 +19,31 @@ use Rattle.codewords.proofs.decode_reply.Statement.{statement}
 use Rattle.codewords.proofs.decode_reply.Tie as tie
 
 -- what holds behind each test
-ranged : (c : tie.Else1) → in_range c.before.before.args.s ≡ true
-ranged c = sym c.before.in-range.ensures ∙ not-false _ c.if1.false
+ranged : (c : tie.Else-not-in_range) → in_range c.before.before.args.s ≡ true
+ranged c = sym c.before.in_range.ensures ∙ c.if-not-in_range.false
 
-known : (c : tie.Else2) → c.before.before.before.args.known ≡ true
-known c = not-false _ c.if2.false
+known : (c : tie.Else-not-known) → c.before.before.before.args.known ≡ true
+known c = c.if-not-known.false
 
-sound : (c : tie.Else3) → NoneApplies (frame_rows c.before.before.before.before.before.before.args.h c.before.before.before.before.before.before.args.length)
-sound c = first_says _ tt (is_success c.before.is-done.ensures c.before.before.frame-reply.ensures c.if3.false)
+sound : (c : tie.Else-not-is_done) → NoneApplies (frame_rows c.before.before.before.before.before.before.args.h c.before.before.before.before.before.before.args.length)
+sound c = first_says _ tt (is_success c.before.is_done.ensures c.before.before.frame_reply-reply.ensures (ap not c.if-not-is_done.false))
 
-returns : tie.Need-returns
+returns-then-not-in_range : tie.Need-returns-then-not-in_range
 unfolding decode_number first
-returns c = rw (sym c.before.in-range.ensures ∙ not-true _ c.if1.true)
+returns-then-not-in_range c = rw (sym c.before.in_range.ensures ∙ c.if-not-in_range.true)
 
-returns-2 : tie.Need-returns-2
+returns-then-not-known : tie.Need-returns-then-not-known
 unfolding decode_number first
-returns-2 c = rw (ranged c.before, not-true c.before.before.before.args.known c.if2.true)
+returns-then-not-known c = rw (ranged c.before, c.if-not-known.true)
 
-returns-3 : tie.Need-returns-3
-returns-3 c =
+returns-then-not-is_done : tie.Need-returns-then-not-is_done
+returns-then-not-is_done c =
     let at = c.before.before.before in
-    let refused = is_refusal c.before.is-done.ensures c.before.before.frame-reply.ensures c.if3.true in
-    c.before.before.frame-reply.ensures ∙ sym (decode_front _ _ _ _ _ (ranged at.before) (known at) refused)
+    let refused = is_refusal c.before.is_done.ensures c.before.before.frame_reply-reply.ensures (ap not c.if-not-is_done.true) in
+    c.before.before.frame_reply-reply.ensures ∙ sym (decode_front _ _ _ _ _ (ranged at.before) (known at) refused)
 
 -- the rows that are left behind the third test
-left : (c : tie.Else3) (room : ℕ)
+left : (c : tie.Else-not-is_done) (room : ℕ)
     → decode_number c.before.before.before.before.before.before.args.known c.before.before.before.before.before.before.args.s c.before.before.before.before.before.before.args.h c.before.before.before.before.before.before.args.length room
     ≡ first (decode_rows c.before.before.before.before.before.before.args.s c.before.before.before.before.before.before.args.h room)
 left c room =
@@ -49,48 +51,48 @@ left c room =
     decode_behind _ _ _ _ room (ranged at.before) (known at) (sound c)
 
 -- the core is another, or the state's; and the number is due, or the edition bears none
-foreign : (c : tie.Then4) → eqb c.before.before.before.before.before.before.before.before.before.before.args.h.core c.before.before.before.before.before.before.before.before.before.before.args.s.core ≡ false
-foreign c = not-true _ c.if4.true
+foreign : (c : tie.Then-not-same_core) → eqb c.before.before.before.before.before.before.before.before.before.before.args.h.core c.before.before.before.before.before.before.before.before.before.before.args.s.core ≡ false
+foreign c = ne_eqb _ _ c.if-not-same_core.true
 
-ours : (c : tie.Else4) → eqb c.before.before.before.before.before.before.before.before.before.before.args.h.core c.before.before.before.before.before.before.before.before.before.before.args.s.core ≡ true
-ours c = not-false _ c.if4.false
+ours : (c : tie.Else-not-same_core) → eqb c.before.before.before.before.before.before.before.before.before.before.args.h.core c.before.before.before.before.before.before.before.before.before.before.args.s.core ≡ true
+ours c = eq-eqb _ _ c.if-not-same_core.false
 
-timely : (c : tie.Else5) → is_due c.before.before.before.before.before.before.before.before.before.before.before.args.h c.before.before.before.before.before.before.before.before.before.before.before.args.s.number ≡ true
-timely c = sym c.before.before.is-due.ensures ∙ not-false _ c.if5.false
+timely : (c : tie.Else-not-due) → is_due c.before.before.before.before.before.before.before.before.before.before.before.args.h c.before.before.before.before.before.before.before.before.before.before.before.args.s.number ≡ true
+timely c = sym c.before.before.is_due-due.ensures ∙ c.if-not-due.false
 
-returns-4 : tie.Need-returns-4
+returns-then-not-same_core : tie.Need-returns-then-not-same_core
 unfolding first
-returns-4 c = sym (left c.before.before.before.before _ ∙ rw (foreign c))
+returns-then-not-same_core c = sym (left c.before.before.before.before _ ∙ rw (foreign c))
 
-returns-5 : tie.Need-returns-5
+returns-then-not-due : tie.Need-returns-then-not-due
 unfolding first
-returns-5 c = sym (left c.before.before.before.before.before _ ∙ rw (ours c.before, sym c.before.before.is-due.ensures ∙ not-true _ c.if5.true))
+returns-then-not-due c = sym (left c.before.before.before.before.before _ ∙ rw (ours c.before, sym c.before.before.is_due-due.ensures ∙ c.if-not-due.true))
 
-returns-6 : tie.Need-returns-6
+returns-then-room-sample_count : tie.Need-returns-then-room-sample_count
 unfolding first
-returns-6 c =
+returns-then-room-sample_count c =
     let at = c.before.before in
-    sym (left at.before.before.before.before.before _ ∙ rw (ours at.before, timely at, ← c.before.sample-count.ensures, lt-ltb _ _ c.if6.true))
+    sym (left at.before.before.before.before.before _ ∙ rw (ours at.before, timely at, ← c.before.sample_count.ensures, lt-ltb _ _ c.if-room-sample_count.true))
 
-returns-7 : tie.Need-returns-7
+returns : tie.Need-returns
 unfolding first
-returns-7 c =
+returns c =
     let at = c.before.before in
-    sym (left at.before.before.before.before.before _ ∙ rw (ours at.before, timely at, ← c.before.sample-count.ensures, le-ltb _ _ c.if6.false))
+    sym (left at.before.before.before.before.before _ ∙ rw (ours at.before, timely at, ← c.before.sample_count.ensures, le-ltb _ _ c.if-room-sample_count.false))
 
 pub decode_reply_spec : {M : Type 1} → statement M
 decode_reply_spec =
     tie.close
     (tie.spec
     (search rules)
-    returns
-    returns-2
+    returns-then-not-in_range
+    returns-then-not-known
     (search rules)
     (search rules)
-    returns-3
+    returns-then-not-is_done
     (search rules)
-    returns-4
-    returns-5
+    returns-then-not-same_core
+    returns-then-not-due
     (search rules)
-    returns-6
-    returns-7)
+    returns-then-room-sample_count
+    returns)

@@ -1,4 +1,6 @@
 -- `drop_planes::drop_reply` meets its contract, row by row; the frame's own rows are passed on.
+use mathlib.Core.Bool.{not}
+use mathlib.Core.Path.{ap}
 use borrow.Author.Rules.{rules}
 use mathlib.Core.Bool.{true}
 use mathlib.Core.Path.{◌≡◌, sym, ◌∙◌}
@@ -15,35 +17,35 @@ use Rattle.drop_planes.proofs.drop_reply.Statement.{statement}
 use Rattle.drop_planes.proofs.drop_reply.Tie as tie
 
 -- what holds behind each test
-sound : (c : tie.Else1) → NoneApplies (frame_rows c.before.before.before.args.h c.before.before.before.args.length)
-sound c = first_says _ tt (is_success c.before.is-done.ensures c.before.before.frame-reply.ensures c.if1.false)
+sound : (c : tie.Else-not-is_done) → NoneApplies (frame_rows c.before.before.before.args.h c.before.before.before.args.length)
+sound c = first_says _ tt (is_success c.before.is_done.ensures c.before.before.frame_reply-reply.ensures (ap not c.if-not-is_done.false))
 
-aimed : (c : tie.Else2) → is_target c.before.before.before.before.before.args.h c.before.before.before.before.before.args.width ≡ true
-aimed c = sym c.before.is-target.ensures ∙ not-false _ c.if2.false
+aimed : (c : tie.Else-not-is_target) → is_target c.before.before.before.before.before.args.h c.before.before.before.before.before.args.width ≡ true
+aimed c = sym c.before.is_target.ensures ∙ c.if-not-is_target.false
 
-due : (c : tie.After-due-length) → c.due-length.result ≡ due_length (narrowed c.before.before.before.before.before.before.before.args.width c.before.before.before.before.before.before.before.args.h)
-due c = c.due-length.ensures ∙ rw c.before.narrow.ensures
+due : (c : tie.After-due_length) → c.due_length.result ≡ due_length (narrowed c.before.before.before.before.before.before.before.args.width c.before.before.before.before.before.before.before.args.h)
+due c = c.due_length.ensures ∙ rw c.before.narrow.ensures
+
+returns-then-not-is_done : tie.Need-returns-then-not-is_done
+returns-then-not-is_done c =
+    let refused = is_refusal c.before.is_done.ensures c.before.before.frame_reply-reply.ensures (ap not c.if-not-is_done.true) in
+    c.before.before.frame_reply-reply.ensures ∙ sym (drop_front _ _ _ _ refused)
+
+returns-then-not-is_target : tie.Need-returns-then-not-is_target
+unfolding first
+returns-then-not-is_target c = sym (drop_behind _ _ _ _ (sound c.before.before) ∙ rw (sym c.before.is_target.ensures ∙ c.if-not-is_target.true))
+
+returns-then-room-due_length : tie.Need-returns-then-room-due_length
+unfolding first
+returns-then-room-due_length c =
+    let at = c.before.before.before in
+    sym (drop_behind _ _ _ _ (sound at.before.before) ∙ rw (aimed at, ← due c.before, lt-ltb _ _ c.if-room-due_length.true))
 
 returns : tie.Need-returns
+unfolding first
 returns c =
-    let refused = is_refusal c.before.is-done.ensures c.before.before.frame-reply.ensures c.if1.true in
-    c.before.before.frame-reply.ensures ∙ sym (drop_front _ _ _ _ refused)
-
-returns-2 : tie.Need-returns-2
-unfolding first
-returns-2 c = sym (drop_behind _ _ _ _ (sound c.before.before) ∙ rw (sym c.before.is-target.ensures ∙ not-true _ c.if2.true))
-
-returns-3 : tie.Need-returns-3
-unfolding first
-returns-3 c =
     let at = c.before.before.before in
-    sym (drop_behind _ _ _ _ (sound at.before.before) ∙ rw (aimed at, ← due c.before, lt-ltb _ _ c.if3.true))
-
-returns-4 : tie.Need-returns-4
-unfolding first
-returns-4 c =
-    let at = c.before.before.before in
-    sym (drop_behind _ _ _ _ (sound at.before.before) ∙ rw (aimed at, ← due c.before, le-ltb _ _ c.if3.false))
+    sym (drop_behind _ _ _ _ (sound at.before.before) ∙ rw (aimed at, ← due c.before, le-ltb _ _ c.if-room-due_length.false))
 
 pub drop_reply_spec : {M : Type 1} → statement M
 drop_reply_spec =
@@ -51,10 +53,10 @@ drop_reply_spec =
     (tie.spec
     (search rules)
     (search rules)
-    returns
+    returns-then-not-is_done
     (search rules)
-    returns-2
+    returns-then-not-is_target
     (search rules)
     (search rules)
-    returns-3
-    returns-4)
+    returns-then-room-due_length
+    returns)

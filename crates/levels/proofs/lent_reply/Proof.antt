@@ -5,23 +5,23 @@ use Rattle.words.specs.First.{first}
 use Rattle.levels.proofs.lent_reply.Statement.{statement}
 use Rattle.levels.proofs.lent_reply.Tie as tie
 
+returns-then-not-taken : tie.Need-returns-then-not-taken
+unfolding first
+returns-then-not-taken c = rw (c.if-not-taken.true)
+
+returns-then-room-due_length : tie.Need-returns-then-room-due_length
+unfolding first
+returns-then-room-due_length c = rw (c.before.before.if-not-taken.false, ← c.before.due_length.ensures, lt-ltb _ _ c.if-room-due_length.true)
+
 returns : tie.Need-returns
 unfolding first
-returns c = rw (not-true c.before.args.taken c.if1.true)
-
-returns-2 : tie.Need-returns-2
-unfolding first
-returns-2 c = rw (not-false c.before.before.before.args.taken c.before.before.if1.false, ← c.before.due-length.ensures, lt-ltb _ _ c.if2.true)
-
-returns-3 : tie.Need-returns-3
-unfolding first
-returns-3 c = rw (not-false c.before.before.before.args.taken c.before.before.if1.false, ← c.before.due-length.ensures, le-ltb _ _ c.if2.false)
+returns c = rw (c.before.before.if-not-taken.false, ← c.before.due_length.ensures, le-ltb _ _ c.if-room-due_length.false)
 
 pub lent_reply_spec : {M : Type 1} → statement M
 lent_reply_spec =
     tie.close
     (tie.spec
-    returns
+    returns-then-not-taken
     (search rules)
-    returns-2
-    returns-3)
+    returns-then-room-due_length
+    returns)
