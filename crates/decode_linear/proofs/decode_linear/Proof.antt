@@ -1,4 +1,6 @@
 -- `decode_linear::decode_linear` meets its contract.
+use mathlib.Core.Bool.{not}
+use mathlib.Core.Path.{ap}
 use borrow.Author.Rules.{rules}
 use mathlib.Core.Path.{◌≡◌, ◌∙◌}
 use Prim.Native.Nat.{◌≤◌}
@@ -17,46 +19,46 @@ use Rattle.codewords.proofs.Answers.{decodes_refused, decodes_done}
 use Rattle.decode_linear.proofs.decode_linear.Statement.{statement}
 use Rattle.decode_linear.proofs.decode_linear.Tie as tie
 
-number : (c : tie.After-decode-reply) → number_of c.decode-reply.result ≡ decode_reply linear c.before.before.before.args.s c.before.before.before.args.frame.now c.before.before.before.args.out.now
+number : (c : tie.After-decode_reply-reply) → number_of c.decode_reply-reply.result ≡ decode_reply linear c.before.before.before.args.s c.before.before.before.args.frame.now c.before.before.before.args.out.now
 unfolding decode_reply
-number c = c.decode-reply.ensures ∙ rw c.before.read-header.ensures
+number c = c.decode_reply-reply.ensures ∙ rw c.before.read_header-h.ensures
 
-fit : (c : tie.Else1) → decode_reply linear c.before.before.before.before.before.args.s c.before.before.before.before.before.args.frame.now c.before.before.before.before.before.args.out.now ≡ 0
-fit c = is_success c.before.is-done.ensures (number c.before.before) c.if1.false
+fit : (c : tie.Else-not-is_done) → decode_reply linear c.before.before.before.before.before.args.s c.before.before.before.before.before.args.frame.now c.before.before.before.before.before.args.out.now ≡ 0
+fit c = is_success c.before.is_done.ensures (number c.before.before) (ap not c.if-not-is_done.false)
 
 -- behind the test the inputs are fit
-able : (c : tie.Else1) → Decodable c.before.before.before.before.before.args.s (header_of c.before.before.before.before.before.args.frame.now) (length c.before.before.before.before.before.args.frame.now) (length c.before.before.before.before.before.args.out.now)
+able : (c : tie.Else-not-is_done) → Decodable c.before.before.before.before.before.args.s (header_of c.before.before.before.before.before.args.frame.now) (length c.before.before.before.before.before.args.frame.now) (length c.before.before.before.before.before.args.out.now)
 unfolding decode_reply
 able c = (decode_says _ _ _ _ _ (fit c)).1
 
-returns : tie.Need-returns
-returns c =
-    decodes_refused _ _ _ _ (number c.before.before) (is_refusal c.before.is-done.ensures (number c.before.before) c.if1.true)
+returns-then-not-is_done : tie.Need-returns-then-not-is_done
+returns-then-not-is_done c =
+    decodes_refused _ _ _ _ (number c.before.before) (is_refusal c.before.is_done.ensures (number c.before.before) (ap not c.if-not-is_done.true))
 
 -- the planes begin behind the header's octets, of which there are enough
-start : (c : tie.After-header-length) → c.header-length.result ≡ header_length (header_of c.before.before.before.before.before.before.args.frame.now).edition
-start c = c.header-length.ensures ∙ rw c.before.before.before.before.read-header.ensures
+start : (c : tie.After-header_length-n) → c.header_length-n.result ≡ header_length (header_of c.before.before.before.before.before.before.args.frame.now).edition
+start c = c.header_length-n.ensures ∙ rw c.before.before.before.before.read_header-h.ensures
 
-long : (c : tie.After-header-length) → c.header-length.result ≤ length c.before.before.before.before.before.before.args.frame.now
+long : (c : tie.After-header_length-n) → c.header_length-n.result ≤ length c.before.before.before.before.before.before.args.frame.now
 long c = rw (start c) (omega (arith, (able c.before).sound.whole))
 
-decode-into-requires : tie.Need-decode-into-requires
-decode-into-requires c κs =
+decode_into-next-requires : tie.Need-decode_into-next-requires
+decode_into-next-requires c κs =
     let at = c.before.before.before in
     let k = able at in
     let f = at.before.before.before.before.before.args.frame.now in
-    rw (at.before.before.before.read-header.ensures, rest_lent f c.before.before.header-length.result, start c.before.before)
+    rw (at.before.before.before.read_header-h.ensures, rest_lent f c.before.before.header_length-n.result, start c.before.before)
     (k.range, k.sound.header, k.core, simp length-drop (omega (arith, k.sound.whole)), k.space)
 
-returns-2 : tie.Need-returns-2
+returns : tie.Need-returns
 unfolding body received
-returns-2 c =
+returns c =
     let called = c.before.before.before.before.before in
     let at = called.before in
     let f = at.before.before.before.before.before.args.frame.now in
-    let h = at.before.before.before.read-header.ensures in
-    let d = rw (h, rest_lent f called.header-length.result, start called) at c.before.before.decode-into.ensures in
-    decodes_done _ _ _ _ (number at.before.before) (fit at) (c.sample-count.ensures ∙ rw h) d
+    let h = at.before.before.before.read_header-h.ensures in
+    let d = rw (h, rest_lent f called.header_length-n.result, start called) at c.before.before.decode_into-next.ensures in
+    decodes_done _ _ _ _ (number at.before.before) (fit at) (c.sample_count.ensures ∙ rw h) d
 
 pub decode_linear_spec : {M : Type 1} → statement M
 decode_linear_spec =
@@ -65,12 +67,12 @@ decode_linear_spec =
     (search rules)
     (search rules)
     (search rules)
-    returns
+    returns-then-not-is_done
     (search rules)
     (λ c. omega (arith, long c))
     (λ c. omega (arith, long c))
     (λ c. omega arith)
-    decode-into-requires
+    decode_into-next-requires
     (search rules)
     (search rules)
-    returns-2)
+    returns)

@@ -1,4 +1,6 @@
 -- `encode::encode` meets its contract.
+use mathlib.Core.Bool.{not}
+use mathlib.Core.Path.{ap}
 use borrow.Author.Rules.{rules}
 use mathlib.Core.Path.{◌≡◌, ◌∙◌}
 use native.Mathlib.Omega.{arith}
@@ -16,35 +18,35 @@ use Rattle.levels.proofs.Answers.{encodes_refused, encodes_done}
 use Rattle.encode.proofs.encode.Statement.{statement}
 use Rattle.encode.proofs.encode.Tie as tie
 
-number : (c : tie.After-encode-reply) → number_of c.encode-reply.result ≡ encode_reply (pcm c.before.before.before.args.law) c.before.before.before.args.s c.before.before.before.args.edition c.before.before.before.args.width c.before.before.before.args.samples.now c.before.before.before.args.out.now
+number : (c : tie.After-encode_reply-reply) → number_of c.encode_reply-reply.result ≡ encode_reply (pcm c.before.before.before.args.law) c.before.before.before.args.s c.before.before.before.args.edition c.before.before.before.args.width c.before.before.before.args.samples.now c.before.before.before.args.out.now
 unfolding encode_reply
-number c = c.encode-reply.ensures ∙ rw (pcm_taken c.before.before.before.args.law c.before.before.before.args.samples.now)
+number c = c.encode_reply-reply.ensures ∙ rw (pcm_taken c.before.before.before.args.law c.before.before.before.args.samples.now)
 
-fit : (c : tie.Else1) → encode_reply (pcm c.before.before.before.before.before.args.law) c.before.before.before.before.before.args.s c.before.before.before.before.before.args.edition c.before.before.before.before.before.args.width c.before.before.before.before.before.args.samples.now c.before.before.before.before.before.args.out.now ≡ 0
-fit c = is_success c.before.is-done.ensures (number c.before.before) c.if1.false
+fit : (c : tie.Else-not-is_done) → encode_reply (pcm c.before.before.before.before.before.args.law) c.before.before.before.before.before.args.s c.before.before.before.before.before.args.edition c.before.before.before.before.before.args.width c.before.before.before.before.before.args.samples.now c.before.before.before.before.before.args.out.now ≡ 0
+fit c = is_success c.before.is_done.ensures (number c.before.before) (ap not c.if-not-is_done.false)
 
 -- behind the test the inputs are fit
-able : (c : tie.Else1) → Encodable c.before.before.before.before.before.args.s (due_header c.before.before.before.before.before.args.s c.before.before.before.before.before.args.edition c.before.before.before.before.before.args.width (length c.before.before.before.before.before.args.samples.now)) (length c.before.before.before.before.before.args.samples.now) (length c.before.before.before.before.before.args.out.now)
+able : (c : tie.Else-not-is_done) → Encodable c.before.before.before.before.before.args.s (due_header c.before.before.before.before.before.args.s c.before.before.before.before.before.args.edition c.before.before.before.before.before.args.width (length c.before.before.before.before.before.args.samples.now)) (length c.before.before.before.before.before.args.samples.now) (length c.before.before.before.before.before.args.out.now)
 unfolding encode_reply
 able c = (encode_says _ _ _ _ _ _ _ (fit c)).2
 
+returns-then-not-is_done : tie.Need-returns-then-not-is_done
+returns-then-not-is_done c =
+    encodes_refused _ _ _ _ _ _ (number c.before.before) (is_refusal c.before.is_done.ensures (number c.before.before) (ap not c.if-not-is_done.true))
+
+due_header-h-requires : tie.Need-due_header-h-requires
+unfolding most_groups
+due_header-h-requires c κs = omega (arith, (able c).header.count.high)
+
+encode_into-next-requires : tie.Need-encode_into-next-requires
+encode_into-next-requires c κs = rw c.before.due_header-h.ensures (able c.before.before)
+
 returns : tie.Need-returns
 returns c =
-    encodes_refused _ _ _ _ _ _ (number c.before.before) (is_refusal c.before.is-done.ensures (number c.before.before) c.if1.true)
-
-due-header-requires : tie.Need-due-header-requires
-unfolding most_groups
-due-header-requires c κs = omega (arith, (able c).header.count.high)
-
-encode-into-requires : tie.Need-encode-into-requires
-encode-into-requires c κs = rw c.before.due-header.ensures (able c.before.before)
-
-returns-2 : tie.Need-returns-2
-returns-2 c =
     let at = c.before.before.before.before.before.before in
-    let h = c.before.before.before.before.before.due-header.ensures in
-    let coded = c.before.before.before.encode-into.ensures in
-    encodes_done _ _ _ _ _ _ (number at.before.before) (fit at) (c.due-length.ensures ∙ rw h) (rw h at coded)
+    let h = c.before.before.before.before.before.due_header-h.ensures in
+    let coded = c.before.before.before.encode_into-next.ensures in
+    encodes_done _ _ _ _ _ _ (number at.before.before) (fit at) (c.due_length.ensures ∙ rw h) (rw h at coded)
 
 pub encode_spec : {M : Type 1} → statement M
 encode_spec =
@@ -52,9 +54,9 @@ encode_spec =
     (tie.spec
     (search rules)
     (search rules)
-    returns
-    due-header-requires
-    encode-into-requires
+    returns-then-not-is_done
+    due_header-h-requires
+    encode_into-next-requires
     (search rules)
     (search rules)
-    returns-2)
+    returns)

@@ -12,36 +12,36 @@ use Rattle.encode_linear.proofs.Testing.{Testing, testing_none, testing_fails, t
 use Rattle.encode_linear.proofs.are_levels.Statement.{statement}
 use Rattle.encode_linear.proofs.are_levels.Tie as tie
 
-abbrev invariant_loop : tie.invariant_loop
-invariant_loop samples i₀ i = Testing is_level samples i
+abbrev invariant-loop-i : tie.invariant-loop-i
+invariant-loop-i samples i₀ i = Testing is_level samples i
 
-abbrev decreases_loop : tie.decreases_loop
-decreases_loop samples i₀ i = length samples - i
+abbrev decreases-loop-i : tie.decreases-loop-i
+decreases-loop-i samples i₀ i = length samples - i
 
 -- what the test says of the sample
-tested : (c : tie.After-is-level invariant_loop decreases_loop) → c.is-level.result ≡ is_level (get_or c.before.before.before.before.args.samples.now c.before.before.before.loop.i (pos 0))
-tested c = c.is-level.ensures ∙ rw (same _ (record { sfits = c.before.is-level-arg.given }))
+tested : (c : tie.After-is_level invariant-loop-i decreases-loop-i) → c.is_level.result ≡ is_level (get_or c.before.before.before.before.args.samples.now c.before.before.before.loop-i.i (pos 0))
+tested c = c.is_level.ensures ∙ rw (same _ (record { sfits = c.before.is_level-arg-1.given }))
 
-returns : tie.Need-returns invariant_loop decreases_loop
-returns c =
-    testing_fails _ _ (pos 0) c.before.before.before.before.loop.invariant c.before.before.before.loop-test.true (sym (tested c.before) ∙ not-true _ c.if1.true)
+returns-then-not-is_level : tie.Need-returns-then-not-is_level invariant-loop-i decreases-loop-i
+returns-then-not-is_level c =
+    testing_fails _ _ (pos 0) c.before.before.before.before.loop-i.invariant c.before.before.before.loop-i-test.true (sym (tested c.before) ∙ c.if-not-is_level.true)
 
-loop-again : tie.Need-loop-preserved invariant_loop decreases_loop
-loop-again c =
-    testing_more _ _ (pos 0) c.before.before.before.before.loop.invariant c.before.before.before.loop-test.true (sym (tested c.before) ∙ not-false _ c.if1.false)
+loop-i-preserved : tie.Need-loop-i-preserved invariant-loop-i decreases-loop-i
+loop-i-preserved c =
+    testing_more _ _ (pos 0) c.before.before.before.before.loop-i.invariant c.before.before.before.loop-i-test.true (sym (tested c.before) ∙ c.if-not-is_level.false)
 
 pub are_levels_spec : {M : Type 1} → statement M
 are_levels_spec =
     tie.close
     (tie.spec
-    invariant_loop
-    decreases_loop
+    invariant-loop-i
+    decreases-loop-i
     (λ c. testing_none _ _)
     (λ c. search rules)
-    (λ c. c.loop-test.true)
+    (λ c. c.loop-i-test.true)
     (λ c κs. search rules)
-    returns
-    (λ c. omega (arith, c.before.before.before.before.before.well-formed))
+    returns-then-not-is_level
+    (λ c. omega (arith, c.before.before.before.before.before.well_formed))
     (λ c. omega arith)
-    loop-again
-    (λ c. testing_done _ _ c.before.loop.invariant c.loop-test.false))
+    loop-i-preserved
+    (λ c. testing_done _ _ c.before.loop-i.invariant c.loop-i-test.false))

@@ -11,23 +11,23 @@ use Rattle.encode_linear.proofs.encode_into.Statement.{statement}
 use Rattle.encode_linear.proofs.encode_into.Tie as tie
 
 -- a frame's samples have room among the levels
-room : (c : tie.After-levels) → length c.before.before.before.args.samples.now ≤ length c.before.blank-levels.result
-room c = rw c.before.blank-levels.ensures (encodable_few c.before.before.before.requires.0)
+room : (c : tie.After-levels-1) → length c.before.before.before.args.samples.now ≤ length c.before.blank_levels-levels.result
+room c = rw c.before.blank_levels-levels.ensures (encodable_few c.before.before.before.requires.0)
 
-slice-aggregate-encode-levels : tie.Need-slice-aggregate-encode-levels
-slice-aggregate-encode-levels c =
+slice_bounds-encode_levels-end : tie.Need-slice_bounds-encode_levels-end
+slice_bounds-encode_levels-end c =
     let at = c.before.before.before.before.before.before in
     sym (rw (levels_taken _ _ c.before.before.level_all.ensures) (levels_length linear at.args.samples.now))
 
-encode-levels-requires : tie.Need-encode-levels-requires
-encode-levels-requires c κs =
+encode_levels-requires : tie.Need-encode_levels-requires
+encode_levels-requires c κs =
     let at = c.before.before.before.before.before.before.before in
     let samples = at.args.samples.now in
     rw (levels_taken linear samples c.before.before.before.level_all.ensures, levels_length linear samples) (at.requires.0, levels_short linear samples at.requires.1)
 
 returns : tie.Need-returns
 returns c =
-    let encoded = c.before.before.encode-levels.ensures in
+    let encoded = c.before.before.encode_levels.ensures in
     rw (levels_taken _ _ c.before.before.before.before.before.before.level_all.ensures) at encoded
 
 pub encode_into_spec : {M : Type 1} → statement M
@@ -38,7 +38,7 @@ encode_into_spec =
     (search rules)
     (λ c κs. (room c, c.before.before.before.requires.1))
     (λ c. omega (arith, room c.before.before, c.before.level_all.auto))
-    slice-aggregate-encode-levels
-    encode-levels-requires
+    slice_bounds-encode_levels-end
+    encode_levels-requires
     (search rules)
     returns)

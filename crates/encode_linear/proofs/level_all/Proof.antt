@@ -15,46 +15,46 @@ use Rattle.encode_linear.proofs.Testing.{every_at}
 use Rattle.encode_linear.proofs.level_all.Statement.{statement}
 use Rattle.encode_linear.proofs.level_all.Tie as tie
 
-abbrev invariant_loop : tie.invariant_loop
-invariant_loop samples levels₀ i₀ levels i = Filled levels₀ (levels_of linear samples) (length samples) i levels
+abbrev invariant-loop-i : tie.invariant-loop-i
+invariant-loop-i samples levels₀ i₀ levels i = Filled levels₀ (levels_of linear samples) (length samples) i levels
 
-abbrev decreases_loop : tie.decreases_loop
-decreases_loop samples levels₀ i₀ levels i = length samples - i
+abbrev decreases-loop-i : tie.decreases-loop-i
+decreases-loop-i samples levels₀ i₀ levels i = length samples - i
 
-loop-holds : tie.Need-loop-init invariant_loop decreases_loop
-loop-holds c =
+loop-i-init : tie.Need-loop-i-init invariant-loop-i decreases-loop-i
+loop-i-init c =
     let at = c.before in
     filled_none _ _ _ (levels_length linear at.args.samples.now) at.requires.0
 
-level-requires : tie.Need-level-requires invariant_loop decreases_loop
+level-requires : tie.Need-level-requires invariant-loop-i decreases-loop-i
 level-requires c κs =
     let at = c.before.before.before.before in
-    rw (same _ (record { sfits = c.level-arg.given })) (every_at is_level at.args.samples.now at.requires.1 (pos 0) _ c.before.loop-test.true)
+    rw (same _ (record { sfits = c.level-arg-1.given })) (every_at is_level at.args.samples.now at.requires.1 (pos 0) _ c.before.loop-i-test.true)
 
-slice-write-levels : tie.Need-slice-write-levels invariant_loop decreases_loop
-slice-write-levels c = omega (arith, c.before.before.before.loop.invariant.size, c.before.before.before.loop.invariant.room)
+bounds-levels-i : tie.Need-bounds-levels-i invariant-loop-i decreases-loop-i
+bounds-levels-i c = omega (arith, c.before.before.before.loop-i.invariant.size, c.before.before.before.loop-i.invariant.room)
 
-loop-again : tie.Need-loop-preserved invariant_loop decreases_loop
-loop-again c =
+loop-i-preserved : tie.Need-loop-i-preserved invariant-loop-i decreases-loop-i
+loop-i-preserved c =
     let at = c.before.before.before.before.before in
-    let more = c.before.before.loop-test.true in
-    filled_more _ _ _ 0 c.before.before.before.loop.invariant more
-    (c.level.ensures ∙ rw (same _ (record { sfits = c.before.level-arg.given })) (sym (level_at linear at.args.samples.now (pos 0) _ more)))
+    let more = c.before.before.loop-i-test.true in
+    filled_more _ _ _ 0 c.before.before.before.loop-i.invariant more
+    (c.level.ensures ∙ rw (same _ (record { sfits = c.before.level-arg-1.given })) (sym (level_at linear at.args.samples.now (pos 0) _ more)))
 
 pub level_all_spec : {M : Type 1} → statement M
 level_all_spec =
     tie.close
     (tie.spec
-    invariant_loop
-    decreases_loop
-    loop-holds
+    invariant-loop-i
+    decreases-loop-i
+    loop-i-init
     (λ c. search rules)
-    (λ c. c.loop-test.true)
+    (λ c. c.loop-i-test.true)
     level-requires
-    (λ c. omega (arith, c.before.before.before.loop.invariant.size, c.before.before.before.loop.invariant.room, c.before.before.before.before.before.well-formed))
-    slice-write-levels
-    (λ c. omega (arith, c.before.before.before.before.before.well-formed))
+    (λ c. omega (arith, c.before.before.before.loop-i.invariant.size, c.before.before.before.loop-i.invariant.room, c.before.before.before.before.before.well_formed))
+    bounds-levels-i
+    (λ c. omega (arith, c.before.before.before.before.before.well_formed))
     (λ c. omega arith)
-    loop-again
-    (λ c. c.before.loop.invariant.size)
-    (λ c. record { out = filled_all _ _ _ c.before.loop.invariant c.loop-test.false }))
+    loop-i-preserved
+    (λ c. c.before.loop-i.invariant.size)
+    (λ c. record { out = filled_all _ _ _ c.before.loop-i.invariant c.loop-i-test.false }))
