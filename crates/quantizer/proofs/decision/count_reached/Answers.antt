@@ -13,9 +13,9 @@ loop-i-preserved c =
     let i = c.loop-i.i in
     let inside : i < length xs = omega arith in
     elim c.if-offset_of-value.branch [
-        then-offset_of-value w ↦ let hit : offset (get_or xs i 0) ≤ offset a.dln = omega arith in omega (arith, reached_counts xs i a.dln inside hit)
+      | then-offset_of-value w ↦ let hit : offset (get_or xs i 0) ≤ offset a.dln = omega arith in omega (arith, reached_counts xs i a.dln inside hit)
       | else-offset_of-value w ↦ let miss : offset a.dln < offset (get_or xs i 0) = omega arith in omega (arith, reached_passes xs i a.dln inside miss)
-      ]
+    ]
 
 pub returns : goal.returns
 returns c = omega (arith, reached_none c.args.levels.now c.loop-i.i c.args.dln (omega arith))
