@@ -5,7 +5,7 @@ use Prim.Native.Nat.{ℕ, zero, suc, ◌+◌, ◌-◌, ◌*◌, ◌/◌, ◌%◌
 use native.Mathlib.Nat.{pow-suc, add-zero, zero-add, add-suc, suc-add}
 use native.Mathlib.Omega.{arith}
 use lib.ListN.{length, get_or, drop}
-use Rattle.lists.proofs.Tables.{length_tabulate, get_d_tabulate}
+use Rattle.lists.proofs.Tables.{length_tabulate, get_or_tabulate}
 use Rattle.frame.specs.Header.{group}
 use Rattle.frame.specs.Planes.{bit}
 use Rattle.frame.specs.Read.{collect, codeword_at, codewords}
@@ -33,7 +33,7 @@ module _ (x g : ℕ) (body : List ℕ) where
 
   pub read_at : (k : ℕ) → k < group * g → get_or (codewords x g body) k 0 ≡ codeword_at x g body k
   unfolding codewords
-  read_at k h = get_d_tabulate (group * g) (codeword_at x g body) k 0 h
+  read_at k h = get_or_tabulate (group * g) (codeword_at x g body) k 0 h
 
   pub read_short : (k : ℕ) → k < group * g → get_or (codewords x g body) k 0 < 2 ^ x
   read_short k h = rw (read_at k h) (codeword_short x g k body)

@@ -5,7 +5,7 @@ use Prim.Native.Nat.{ℕ, zero, suc, ◌*◌, ◌≤◌, ◌<◌}
 use native.Mathlib.Nat.{zero-mul, suc-mul, add_comm, mul_comm, mul-le-mul}
 use native.Mathlib.Omega.{arith}
 use lib.ListN.{length, get_or, drop, length-append}
-use Rattle.lists.proofs.Tables.{length_tabulate, get_d_tabulate}
+use Rattle.lists.proofs.Tables.{length_tabulate, get_or_tabulate}
 use Rattle.frame.specs.declared.header.Header.{Header}
 use Rattle.frame.specs.Header.{plain, numbered, group, header_length, most_groups, frame_length, due_length}
 use Rattle.frame.specs.Planes.{gather, octet_at, plane, planes, frame_of}
@@ -18,7 +18,7 @@ plane_length g b codewords = length_tabulate g (octet_at b codewords)
 
 pub plane_at : (g b : ℕ) (codewords : List ℕ) (j : ℕ) → j < g → get_or (plane g b codewords) j 0 ≡ gather group b (drop (j * group) codewords) 0
 unfolding plane octet_at
-plane_at g b codewords j h = get_d_tabulate g (octet_at b codewords) j 0 h ∙ rw (mul_comm group j)
+plane_at g b codewords j h = get_or_tabulate g (octet_at b codewords) j 0 h ∙ rw (mul_comm group j)
 
 pub planes_length : (g x : ℕ) (codewords : List ℕ) → length (planes g x codewords) ≡ x * g
 unfolding planes

@@ -17,7 +17,7 @@ module _ {A : Type 0} where
   drop_map f (suc n) [] = refl
   drop_map f (suc n) (x ∷ xs) = drop_map f n xs
 
-  pub get_d_map : {B : Type 0} (f : A → B) (xs : List A) (i : ℕ) (d : A) (e : B) → i < length xs → get_or (map f xs) i e ≡ f (get_or xs i d)
-  get_d_map f [] i d e h = absurd (not-suc-le-zero h)
-  get_d_map f (x ∷ xs) zero d e h = refl
-  get_d_map f (x ∷ xs) (suc i) d e h = get_d_map f xs i d e (le_of_suc-le-suc h)
+  pub get_or_map : {B : Type 0} (f : A → B) (xs : List A) (i : ℕ) (d : A) (e : B) → i < length xs → get_or (map f xs) i e ≡ f (get_or xs i d)
+  get_or_map f [] i d e h = absurd (not-suc-le-zero h)
+  get_or_map f (x ∷ xs) zero d e h = refl
+  get_or_map f (x ∷ xs) (suc i) d e h = get_or_map f xs i d e (le_of_suc-le-suc h)

@@ -18,15 +18,15 @@ module _ {A : Type 0} where
   unfolding tabulate
   length_tabulate n f = length_entries f 0 n
 
-  getD_entries : (f : ℕ → A) (i n k : ℕ) (d : A) → k < n → get_or (entries f i n) k d ≡ f (i + k)
+  get_or_entries : (f : ℕ → A) (i n k : ℕ) (d : A) → k < n → get_or (entries f i n) k d ≡ f (i + k)
   unfolding entries
-  getD_entries f i zero k d h = absurd (not-suc-le-zero h)
-  getD_entries f i (suc n) zero d h = ap f (sym (add-zero i))
-  getD_entries f i (suc n) (suc k) d h = getD_entries f (suc i) n k d (le_of_suc-le-suc h) ∙ ap f (suc-add i k ∙ sym (add-suc i k))
+  get_or_entries f i zero k d h = absurd (not-suc-le-zero h)
+  get_or_entries f i (suc n) zero d h = ap f (sym (add-zero i))
+  get_or_entries f i (suc n) (suc k) d h = get_or_entries f (suc i) n k d (le_of_suc-le-suc h) ∙ ap f (suc-add i k ∙ sym (add-suc i k))
 
-  pub get_d_tabulate : (n : ℕ) (f : ℕ → A) (k : ℕ) (d : A) → k < n → get_or (tabulate n f) k d ≡ f k
+  pub get_or_tabulate : (n : ℕ) (f : ℕ → A) (k : ℕ) (d : A) → k < n → get_or (tabulate n f) k d ≡ f k
   unfolding tabulate
-  get_d_tabulate n f k d h = getD_entries f 0 n k d h ∙ ap f (zero-add k)
+  get_or_tabulate n f k d h = get_or_entries f 0 n k d h ∙ ap f (zero-add k)
 
   same_entries : (f g : ℕ → A) (i n : ℕ) → ((k : ℕ) → k < n → f (i + k) ≡ g (i + k)) → entries f i n ≡ entries g i n
   unfolding entries
@@ -43,7 +43,7 @@ module _ {A : Type 0} where
   pub tabulate_list : (xs : List A) (d : A) → tabulate (length xs) (λ k. get_or xs k d) ≡ xs
   tabulate_list xs d =
       ext_get_or d _ xs (length_tabulate (length xs) (λ k. get_or xs k d))
-      (λ k h. get_d_tabulate (length xs) (λ k. get_or xs k d) k d (rw length_tabulate at h))
+      (λ k h. get_or_tabulate (length xs) (λ k. get_or xs k d) k d (rw length_tabulate at h))
 
   module _ {B : Type 0} (f : A → B) where
     map_entries : (h : ℕ → A) (i n : ℕ) → map f (entries h i n) ≡ entries (λ k. f (h k)) i n
