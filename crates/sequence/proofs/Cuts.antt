@@ -1,6 +1,6 @@
 -- However a list is cut and however long the buffers are: what is made by a caller's calls, and what is left to be made, is what was to be made; and whatever a
 -- single call does not change, the calls together do not.
-use Rattle.std.proofs.Common.{◌≡◌, ℕ, ◌+◌, List, [], ◌∷◌, ◌++◌, take, drop, sym, refl, ap, ◌∙◌, append_assoc, drop-drop}
+use Rattle.std.proofs.Common.{◌≡◌, ℕ, List, [], ◌∷◌, ◌++◌, take, drop, sym, refl, ap, ◌∙◌, append_assoc, drop-drop}
 use Rattle.sequence.specs.Piece.{Piece, stop, further, Offer, session}
 
 module _ {S : Type 0} (call : ℕ → S → List ℕ → Piece S) where

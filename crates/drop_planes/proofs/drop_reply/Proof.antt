@@ -4,7 +4,7 @@ use mathlib.Core.Path.{ap}
 use borrow.Author.Rules.{rules}
 use mathlib.Core.Bool.{true}
 use mathlib.Core.Path.{◌≡◌, sym, ◌∙◌}
-use borrow.Author.Tests.{lt-ltb, le-ltb, not-true, not-false}
+use borrow.Author.Tests.{lt-ltb, le-ltb}
 use Rattle.words.specs.First.{first}
 use Rattle.words.proofs.First.{NoneApplies, first_says}
 use Rattle.frame.specs.Header.{due_length}

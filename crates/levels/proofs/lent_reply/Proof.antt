@@ -1,6 +1,6 @@
 -- `levels::lent_reply` meets its contract, row by row.
 use borrow.Author.Rules.{rules}
-use borrow.Author.Tests.{lt-ltb, le-ltb, not-true, not-false}
+use borrow.Author.Tests.{lt-ltb, le-ltb}
 use Rattle.words.specs.First.{first}
 use Rattle.levels.proofs.lent_reply.Statement.{statement}
 use Rattle.levels.proofs.lent_reply.Tie as tie

@@ -1,7 +1,6 @@
 -- `reset::reset` meets its contract.
 use borrow.Author.Rules.{rules}
 use mathlib.Core.Path.{refl, sym, ◌∙◌}
-use borrow.Author.Tests.{not-true, not-false}
 use Rattle.words.specs.First.{first}
 use Rattle.reset.specs.Reset.{reset_number, reset_state}
 use Rattle.reset.proofs.reset.Statement.{statement}

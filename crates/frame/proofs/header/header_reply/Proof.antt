@@ -2,7 +2,6 @@
 use borrow.Author.Rules.{rules}
 use mathlib.Core.Bool.{true}
 use mathlib.Core.Path.{◌≡◌, sym, ◌∙◌}
-use borrow.Author.Tests.{not-true, not-false}
 use Rattle.words.specs.First.{first}
 use Rattle.quantizer.specs.Pair.{is_pair}
 use Rattle.frame.specs.Header.{is_edition}

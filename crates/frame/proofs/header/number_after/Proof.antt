@@ -3,7 +3,6 @@ use borrow.Author.Rules.{rules}
 use mathlib.Core.Bool.{true}
 use mathlib.Core.Path.{◌≡◌, sym, ◌∙◌}
 use native.Mathlib.Omega.{arith}
-use borrow.Author.Tests.{not-true, not-false}
 use Rattle.frame.specs.Header.{is_numbered, number_after}
 use Rattle.frame.proofs.header.number_after.Statement.{statement}
 use Rattle.frame.proofs.header.number_after.Tie as tie

@@ -1,5 +1,5 @@
 -- The first planes are copied, and the header is written anew.
-use Rattle.std.proofs.Common.{◌≡◌, ◌+◌, ◌*◌, ◌++◌, ◌≤◌, length, drop, ap, arith, ◌∙◌}
+use Rattle.std.proofs.Common.{◌≡◌, ◌*◌, ◌++◌, ◌≤◌, length, drop, ap, arith, ◌∙◌}
 use native.Mathlib.Nat.{mul-le-mul_right}
 use Rattle.frame.specs.Header.{header_of, due_length}
 use Rattle.frame.specs.Read.{body, narrowed, thinned}

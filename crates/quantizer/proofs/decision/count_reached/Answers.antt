@@ -1,5 +1,5 @@
 -- What is left to count is one row shorter, whether the row was reached or not.
-use Rattle.std.proofs.Common.{◌+◌, ◌<◌, ◌≤◌, length, arith}
+use Rattle.std.proofs.Common.{◌<◌, ◌≤◌, length, arith}
 use lib.ListN.{get_or}
 use Rattle.quantizer.specs.Threshold.{offset}
 use Rattle.quantizer.proofs.Thresholds.{reached_counts, reached_passes, reached_none}
