@@ -3,7 +3,10 @@
 ghost use Rattle.std.specs.Prelude.{◌≤◌, ◌<◌, length};
 ghost use Rattle.vectors.specs.Inputs.{input_octets};
 
-use libc::STDERR_FILENO;
+use std::fmt::Write;
+use std::fs::File;
+use std::io::{Error, Read};
+use text::{Line, STDERR, within};
 
 const FILES: usize = 8;
 
@@ -19,6 +22,10 @@ pub const JUMP: usize = 6;
 // Where each file begins in the buffer, and where the last one ends
 const STARTS: [usize; 9] = [0, 16384, 32768, 34816, 36864, 40360, 43856, 47952, 52048];
 
+const NAMES: [&str; 8] = [
+    "nrm.m", "nrm.a", "ovr.m", "ovr.a", "init.m", "init.a", "jump.m", "jump.a",
+];
+
 #[derive(Clone, Copy)]
 pub struct Part {
     pub from: usize,
@@ -26,20 +33,19 @@ pub struct Part {
 }
 
 // Reads them all, or says which could not be read
-pub fn load(pcm: &mut [u8]) -> bool
+pub fn load(rt: &HostRuntime, pcm: &mut [u8]) -> bool
     requires { input_octets ≤ length pcm.old }
 {
-    // six octets a name
-    load_all(pcm, b"nrm.m nrm.a ovr.m ovr.a init.minit.ajump.mjump.a")
+    load_all(rt, pcm, &NAMES)
 }
 
-fn load_all(pcm: &mut [u8], names: &[u8]) -> bool
+fn load_all(rt: &HostRuntime, pcm: &mut [u8], names: &[&str]) -> bool
     requires input_octets_in_bounds { input_octets ≤ length pcm.old }
-    requires in_bounds { 48 ≤ length names.now }
+    requires in_bounds { 8 ≤ length names.now }
 {
     let mut file = 0;
     while file < FILES {
-        if !load_file(pcm, names, file) {
+        if !load_file(rt, pcm, names, file) {
             return false;
         }
         file += 1;
@@ -47,18 +53,15 @@ fn load_all(pcm: &mut [u8], names: &[u8]) -> bool
     true
 }
 
-fn load_file(pcm: &mut [u8], names: &[u8], file: usize) -> bool
+fn load_file(rt: &HostRuntime, pcm: &mut [u8], names: &[&str], file: usize) -> bool
     requires input_octets_in_bounds { input_octets ≤ length pcm.old }
-    requires in_bounds { 48 ≤ length names.now }
+    requires in_bounds { 8 ≤ length names.now }
     requires file_bound { file < 8 }
 {
     let part = part_of(file);
     let from = part.from;
     let to = part.to;
-    let first = 6 * file;
-    // the last four names have a sixth letter
-    let end = first + 5 + file / 4;
-    read_file(&names[first..end], &mut pcm[from..to])
+    read_file(rt, names[file], &mut pcm[from..to])
 }
 
 fn part_of(file: usize) -> Part
@@ -71,26 +74,95 @@ fn part_of(file: usize) -> Part
     }
 }
 
-fn read_file(name: &[u8], octets: &mut [u8]) -> bool {
-    let fd = os::open_read(name);
-    if fd < 0 {
-        os::fail(name);
-        return false;
+fn read_file(rt: &HostRuntime, name: &str, octets: &mut [u8]) -> bool {
+    match File::open(rt, name) {
+        Ok(mut file) => is_filled(&mut file, name, octets),
+        Err(error) => {
+            fail(name, error);
+            false
+        }
     }
-    let got = io::read_full(fd, octets);
-    let more = is_more(fd);
-    libc::close(fd);
+}
+
+// Whether the file has just as many octets as there is room for
+fn is_filled(file: &mut File, name: &str, octets: &mut [u8]) -> bool {
+    let got = read_full(file, octets);
+    let more = is_more(file);
     if (got == octets.len()) & !more {
         return true;
     }
-    io::write_all(STDERR_FILENO, name);
-    io::write_all(STDERR_FILENO, b": not as long as docs/SEQUENCES.md says\n");
+    io::write_all(STDERR, name.as_bytes());
+    io::write_all(STDERR, b": not as long as docs/SEQUENCES.md says\n");
     false
 }
 
-fn is_more(fd: i32) -> bool {
+fn is_more(file: &mut File) -> bool {
     let mut one = [0u8; 1];
-    0 < io::read_full(fd, &mut one)
+    0 < read_full(file, &mut one)
+}
+
+// Until there is no more room, or the file ends or cannot be read
+fn read_full(file: &mut File, octets: &mut [u8]) -> usize
+    ensures { result ≤ length octets.new }
+{
+    let mut done = 0;
+    while done < octets.len() {
+        let n = match file.read(&mut octets[done..]) {
+            Ok(n) => n,
+            Err(_) => 0,
+        };
+        if n == 0 {
+            return done;
+        }
+        done += n;
+    }
+    done
+}
+
+// What failed, and why, in the system's words
+fn fail(what: &str, error: Error) {
+    io::write_all(STDERR, what.as_bytes());
+    io::write_all(STDERR, b": ");
+    write_reason(error);
+    io::write_all(STDERR, b"\n");
+}
+
+fn write_reason(error: Error) {
+    let mut told = Told {
+        line: Line::empty(),
+    };
+    let _ = write!(told, "{error}");
+    let line = told.line;
+    let octets = line.octets;
+    let n = before_number(&octets[..within(line.count, &octets)]);
+    io::write_all(STDERR, &octets[..n]);
+}
+
+// The library's text of an error, which ends in the error's number, as in `No such file or directory (os error 2)`
+#[derive(Clone, Copy)]
+struct Told {
+    line: Line,
+}
+
+impl Write for Told {
+    fn write_str(&mut self, words: &str) -> std::fmt::Result {
+        self.line = self.line.text(words.as_bytes());
+        Ok(())
+    }
+}
+
+// How many octets stand before the last bracket and the space in front of it
+fn before_number(words: &[u8]) -> usize
+    ensures { result ≤ length words.now }
+{
+    let mut n = words.len();
+    while 0 < n {
+        n -= 1;
+        if (words[n] == b'(') & (0 < n) {
+            return n - 1;
+        }
+    }
+    words.len()
 }
 
 // Of an input, by the number of its file of mu-law

@@ -5,12 +5,11 @@ use crate::drive::Track;
 use crate::names::named;
 use crate::runs::{Kind, Run};
 use checksum::of_state;
-use libc::STDOUT_FILENO;
 use sample::pcm::Played;
 use state::memory::Memory;
 use state::numbers::same_state;
 use state::{State, moved_on, reset};
-use text::Line;
+use text::{Line, STDOUT};
 
 // Where a sample stands in a sequence, the octet that the encoder was given, and whether the sample is dumped
 #[derive(Clone, Copy)]
@@ -27,7 +26,7 @@ pub fn write_run(run: Run, t: Track)
     let kind = run.kind;
     summed(named(run), kind, run.core, t)
         .octet(b'\n')
-        .write(STDOUT_FILENO);
+        .write(STDOUT);
 }
 
 fn summed(line: Line, kind: Kind, core: u8, t: Track) -> Line {
@@ -68,7 +67,7 @@ pub fn write_sample(note: Note, core: u8, codeword: u8, p: Played) {
     if note.dumped {
         answered(given(note), core, codeword, p)
             .octet(b'\n')
-            .write(STDOUT_FILENO);
+            .write(STDOUT);
     }
 }
 

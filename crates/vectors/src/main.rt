@@ -15,33 +15,46 @@ ghost use Rattle.std.specs.Prelude.{◌≤◌, length};
 ghost use Rattle.vectors.specs.Inputs.{input_octets};
 
 use drive::perform;
-use libc::STDERR_FILENO;
 use lines::write_run;
 use names::{is_named, say_unknown};
 use runs::{RUNS, run_at};
+use std::env::{Env, FillError};
+use text::STDERR;
 
-fn main() {
+fn main(rt: HostRuntime) {
     let mut pcm = io::large_buffer();
-    if inputs::load(&mut pcm) {
-        run_on(&pcm);
+    if inputs::load(&rt, &mut pcm) {
+        run_on(&rt, &pcm);
     }
 }
 
-fn run_on(pcm: &[u8])
+fn run_on(rt: &HostRuntime, pcm: &[u8])
     requires { input_octets ≤ length pcm.now }
 {
-    let count = os::arg_count();
-    if count < 2 {
+    if !has_argument(rt, 1) {
         write_all_runs(pcm);
         return;
     }
-    if 2 < count {
-        io::write_all(STDERR_FILENO, b"the name of one sequence, or none\n");
+    if has_argument(rt, 2) {
+        io::write_all(STDERR, b"the name of one sequence, or none\n");
         return;
     }
     let mut name = io::buffer();
-    let n = os::arg(1, &mut name);
+    // one that is too long is no sequence's, and is not told
+    let n = match rt.arg(1, &mut name) {
+        Ok(n) => n,
+        Err(_) => 0,
+    };
     dump(pcm, &name[..n]);
+}
+
+// Also one that is longer than the buffer
+fn has_argument(rt: &HostRuntime, i: usize) -> bool {
+    let mut word = io::buffer();
+    match rt.arg(i, &mut word) {
+        Err(FillError::NotPresent) => false,
+        _ => true,
+    }
 }
 
 fn write_all_runs(pcm: &[u8])

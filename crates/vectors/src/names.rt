@@ -2,8 +2,7 @@
 ghost use Rattle.quantizer.specs.Pair.{Pair};
 
 use crate::runs::{Kind, Run};
-use libc::STDERR_FILENO;
-use text::{Line, within};
+use text::{Line, STDERR, within};
 
 pub fn named(run: Run) -> Line
     requires { Pair run.width run.core }
@@ -59,10 +58,10 @@ pub fn is_named(run: Run, given: &[u8]) -> bool
 }
 
 pub fn say_unknown(given: &[u8]) {
-    io::write_all(STDERR_FILENO, b"no sequence is named ");
-    io::write_all(STDERR_FILENO, given);
+    io::write_all(STDERR, b"no sequence is named ");
+    io::write_all(STDERR, given);
     io::write_all(
-        STDERR_FILENO,
+        STDERR,
         b": a name is R or H, N, V or I, a pair of 52 42 32 22 53 43 33 54 44, _, \
         and M, A, C or X, but M or A after I; or RJ, one of 52 53 54, _, and M or A; \
         or HELD22_M, HELD33_M, HELD44_M\n",
