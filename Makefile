@@ -5,14 +5,15 @@ PREFIX ?= /usr/local
 bin = $(DESTDIR)$(PREFIX)/bin
 lib = $(DESTDIR)$(PREFIX)/lib/parchfennel
 tool = target/tool/parchfennel
-sources = KIT crates.txt host/main.c host/build-tool $(shell find crates -type f)
+# what rt has made of the crates, their out/, is none
+sources = KIT crates.txt host/build-tool $(shell find crates -name out -prune -o -type f -print)
 
 all: $(tool)
 
 $(tool): $(sources)
 	host/build-tool
 
-# Where the machine is not x86-64, host/parchfennel is installed too: it starts the tool under the kit's emulator.
+# Where the machine is not x86-64, host/parchfennel is installed too: it starts the tool under QEMU.
 install: $(tool)
 ifeq ($(shell uname -m),x86_64)
 	install -D -m 755 $(tool) "$(bin)/parchfennel"
