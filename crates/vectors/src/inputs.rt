@@ -3,10 +3,10 @@
 ghost use Rattle.std.specs.Prelude.{◌≤◌, ◌<◌, length};
 ghost use Rattle.vectors.specs.Inputs.{input_octets};
 
-use std::fmt::Write;
+use std::fmt::InlineText;
 use std::fs::File;
 use std::io::{Error, Read};
-use text::{Line, STDERR, within};
+use text::{Line, STDERR};
 
 const FILES: usize = 8;
 
@@ -119,50 +119,21 @@ fn read_full(file: &mut File, octets: &mut [u8]) -> usize
     done
 }
 
-// What failed, and why, in the system's words
+// What failed, and why
 fn fail(what: &str, error: Error) {
     io::write_all(STDERR, what.as_bytes());
-    io::write_all(STDERR, b": ");
-    write_reason(error);
-    io::write_all(STDERR, b"\n");
+    why(error).write(STDERR);
 }
 
-fn write_reason(error: Error) {
-    let mut told = Told {
-        line: Line::empty(),
+// Of an error of the system its text alone: behind that std writes its number.
+fn why(error: Error) -> Line {
+    let said = InlineText::<256>::of(error);
+    let words = said.as_str();
+    let text = match words.split_once(" (os error ") {
+        Some((text, _)) => text,
+        None => words,
     };
-    let _ = write!(told, "{error}");
-    let line = told.line;
-    let octets = line.octets;
-    let n = before_number(&octets[..within(line.count, &octets)]);
-    io::write_all(STDERR, &octets[..n]);
-}
-
-// The library's text of an error, which ends in the error's number, as in `No such file or directory (os error 2)`
-#[derive(Clone, Copy)]
-struct Told {
-    line: Line,
-}
-
-impl Write for Told {
-    fn write_str(&mut self, words: &str) -> std::fmt::Result {
-        self.line = self.line.text(words.as_bytes());
-        Ok(())
-    }
-}
-
-// How many octets stand before the last bracket and the space in front of it
-fn before_number(words: &[u8]) -> usize
-    ensures { result ≤ length words.now }
-{
-    let mut n = words.len();
-    while 0 < n {
-        n -= 1;
-        if (words[n] == b'(') & (0 < n) {
-            return n - 1;
-        }
-    }
-    words.len()
+    Line::empty().text(b": ").text(text.as_bytes()).octet(b'\n')
 }
 
 // Of an input, by the number of its file of mu-law

@@ -4,47 +4,47 @@ use native.Mathlib.Omega.{arith}
 use Rattle.vectors.proofs.place_of.Statement.{statement}
 use Rattle.vectors.proofs.place_of.Tie as tie
 
-abbrev invariant_loop : tie.invariant_loop
-invariant_loop name k₀ k = k ≤ 189
+abbrev invariant-loop-k : tie.invariant-loop-k
+invariant-loop-k name k₀ k = k ≤ 189
 
-abbrev decreases_loop : tie.decreases_loop
-decreases_loop name k₀ k = 189 - k
+abbrev decreases-loop-k : tie.decreases-loop-k
+decreases-loop-k name k₀ k = 189 - k
 
-loop-holds : tie.Need-loop-init invariant_loop decreases_loop
-loop-holds c = omega arith
+loop-k-init : tie.Need-loop-k-init invariant-loop-k decreases-loop-k
+loop-k-init c = omega arith
 
-run-at-requires : tie.Need-run-at-requires invariant_loop decreases_loop
-run-at-requires c κs = omega arith
+run_at-requires : tie.Need-run_at-requires invariant-loop-k decreases-loop-k
+run_at-requires c κs = omega arith
 
-is-named-requires : tie.Need-is-named-requires invariant_loop decreases_loop
-is-named-requires c κs = c.run_at.ensures
+is_named-requires : tie.Need-is_named-requires invariant-loop-k decreases-loop-k
+is_named-requires c κs = c.run_at.ensures
 
-returns : tie.Need-returns invariant_loop decreases_loop
+returns-then-is_named : tie.Need-returns-then-is_named invariant-loop-k decreases-loop-k
+returns-then-is_named c = tt
+
+overflow_add-k : tie.Need-overflow_add-k invariant-loop-k decreases-loop-k
+overflow_add-k c = omega arith
+
+loop-k-smaller : tie.Need-loop-k-smaller invariant-loop-k decreases-loop-k
+loop-k-smaller c = omega arith
+
+loop-k-preserved : tie.Need-loop-k-preserved invariant-loop-k decreases-loop-k
+loop-k-preserved c = omega arith
+
+returns : tie.Need-returns invariant-loop-k decreases-loop-k
 returns c = tt
-
-add-k : tie.Need-overflow-add-k invariant_loop decreases_loop
-add-k c = omega arith
-
-loop-less : tie.Need-loop-smaller invariant_loop decreases_loop
-loop-less c = omega arith
-
-loop-again : tie.Need-loop-preserved invariant_loop decreases_loop
-loop-again c = omega arith
-
-returns-2 : tie.Need-returns-2 invariant_loop decreases_loop
-returns-2 c = tt
 
 pub place_of_spec : {M : Type 1} → statement M
 place_of_spec =
     tie.close
     (tie.spec
-    invariant_loop
-    decreases_loop
-    loop-holds
-    run-at-requires
-    is-named-requires
-    returns
-    add-k
-    loop-less
-    loop-again
-    returns-2)
+    invariant-loop-k
+    decreases-loop-k
+    loop-k-init
+    run_at-requires
+    is_named-requires
+    returns-then-is_named
+    overflow_add-k
+    loop-k-smaller
+    loop-k-preserved
+    returns)

@@ -4,47 +4,47 @@ use native.Mathlib.Omega.{arith}
 use Rattle.vectors.proofs.write_all_runs.Statement.{statement}
 use Rattle.vectors.proofs.write_all_runs.Tie as tie
 
-abbrev invariant_loop : tie.invariant_loop
-invariant_loop pcm k₀ k = k ≤ 189
+abbrev invariant-loop-k : tie.invariant-loop-k
+invariant-loop-k pcm k₀ k = k ≤ 189
 
-abbrev decreases_loop : tie.decreases_loop
-decreases_loop pcm k₀ k = 189 - k
+abbrev decreases-loop-k : tie.decreases-loop-k
+decreases-loop-k pcm k₀ k = 189 - k
 
-loop-holds : tie.Need-loop-init invariant_loop decreases_loop
-loop-holds c = omega arith
+loop-k-init : tie.Need-loop-k-init invariant-loop-k decreases-loop-k
+loop-k-init c = omega arith
 
-run-at-requires : tie.Need-run-at-requires invariant_loop decreases_loop
-run-at-requires c κs = omega arith
+run_at-run-requires : tie.Need-run_at-run-requires invariant-loop-k decreases-loop-k
+run_at-run-requires c κs = omega arith
 
-perform-requires : tie.Need-perform-requires invariant_loop decreases_loop
-perform-requires c κs = (c.run_at.ensures, omega arith)
+perform-requires : tie.Need-perform-requires invariant-loop-k decreases-loop-k
+perform-requires c κs = (c.run_at-run.ensures, omega arith)
 
-write-run-requires : tie.Need-write-run-requires invariant_loop decreases_loop
-write-run-requires c κs = c.before.run_at.ensures
+write_run-requires : tie.Need-write_run-requires invariant-loop-k decreases-loop-k
+write_run-requires c κs = c.before.run_at-run.ensures
 
-add-k : tie.Need-overflow-add-k invariant_loop decreases_loop
-add-k c = omega arith
+overflow_add-k : tie.Need-overflow_add-k invariant-loop-k decreases-loop-k
+overflow_add-k c = omega arith
 
-loop-less : tie.Need-loop-smaller invariant_loop decreases_loop
-loop-less c = omega arith
+loop-k-smaller : tie.Need-loop-k-smaller invariant-loop-k decreases-loop-k
+loop-k-smaller c = omega arith
 
-loop-again : tie.Need-loop-preserved invariant_loop decreases_loop
-loop-again c = omega arith
+loop-k-preserved : tie.Need-loop-k-preserved invariant-loop-k decreases-loop-k
+loop-k-preserved c = omega arith
 
-returns : tie.Need-returns invariant_loop decreases_loop
+returns : tie.Need-returns invariant-loop-k decreases-loop-k
 returns c = tt
 
 pub write_all_runs_spec : {M : Type 1} → statement M
 write_all_runs_spec =
     tie.close
     (tie.spec
-    invariant_loop
-    decreases_loop
-    loop-holds
-    run-at-requires
+    invariant-loop-k
+    decreases-loop-k
+    loop-k-init
+    run_at-run-requires
     perform-requires
-    write-run-requires
-    add-k
-    loop-less
-    loop-again
+    write_run-requires
+    overflow_add-k
+    loop-k-smaller
+    loop-k-preserved
     returns)

@@ -5,14 +5,14 @@ use Rattle.quantizer.proofs.Halves.{halves}
 use Rattle.vectors.proofs.codewords.input_at.Statement.{statement}
 use Rattle.vectors.proofs.codewords.input_at.Tie as tie
 
-mul-result : tie.Need-overflow-mul-result
-mul-result c = omega (arith, halves c.before.before.before.requires)
+overflow_mul-result : tie.Need-overflow_mul-result
+overflow_mul-result c = omega (arith, halves c.before.before.before.requires)
+
+returns-then-negative : tie.Need-returns-then-negative
+returns-then-negative c = omega (arith, halves c.before.before.before.requires)
 
 returns : tie.Need-returns
-returns c = omega (arith, halves c.before.before.before.requires)
-
-returns-2 : tie.Need-returns-2
-returns-2 c = omega (arith, halves c.before.before.requires)
+returns c = omega (arith, halves c.before.before.requires)
 
 pub input_at_spec : {M : Type 1} → statement M
 input_at_spec =
@@ -20,8 +20,8 @@ input_at_spec =
     (tie.spec
     (search rules)
     (search rules)
-    mul-result
+    overflow_mul-result
     (search rules)
     (search rules)
-    returns
-    returns-2)
+    returns-then-negative
+    returns)

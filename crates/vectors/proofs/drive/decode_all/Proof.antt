@@ -5,47 +5,47 @@ use Rattle.vectors.specs.Ready.{Ready}
 use Rattle.vectors.proofs.drive.decode_all.Statement.{statement}
 use Rattle.vectors.proofs.drive.decode_all.Tie as tie
 
-abbrev invariant_loop : tie.invariant_loop
-invariant_loop run count dumped t₀ register₀ n₀ t register n = (n ≤ count) × Ready t
+abbrev invariant-loop-n : tie.invariant-loop-n
+invariant-loop-n run count dumped t₀ register₀ n₀ t register n = (n ≤ count) × Ready t
 
-abbrev decreases_loop : tie.decreases_loop
-decreases_loop run count dumped t₀ register₀ n₀ t register n = count - n
+abbrev decreases-loop-n : tie.decreases-loop-n
+decreases-loop-n run count dumped t₀ register₀ n₀ t register n = count - n
 
-loop-holds : tie.Need-loop-init invariant_loop decreases_loop
-loop-holds c = (omega arith, c.requires.1)
+loop-n-init : tie.Need-loop-n-init invariant-loop-n decreases-loop-n
+loop-n-init c = (omega arith, c.requires.1)
 
-sign-at-requires : tie.Need-sign-at-requires invariant_loop decreases_loop
-sign-at-requires c κs = tt
+sign_at-sign-requires : tie.Need-sign_at-sign-requires invariant-loop-n decreases-loop-n
+sign_at-sign-requires c κs = tt
 
-received-requires : tie.Need-received-requires invariant_loop decreases_loop
-received-requires c κs = (c.before.before.before.requires.0, c.before.before.loop.invariant.1)
+received-requires : tie.Need-received-requires invariant-loop-n decreases-loop-n
+received-requires c κs = (c.before.before.before.requires.0, c.before.before.loop-n.invariant.1)
 
-step-requires : tie.Need-step-requires invariant_loop decreases_loop
-step-requires c κs = ((c.before.before.before.before.requires.0, c.before.before.before.loop.invariant.1), c.received.ensures)
+step-t-requires : tie.Need-step-t-requires invariant-loop-n decreases-loop-n
+step-t-requires c κs = ((c.before.before.before.before.requires.0, c.before.before.before.loop-n.invariant.1), c.received.ensures)
 
-add-n : tie.Need-overflow-add-n invariant_loop decreases_loop
-add-n c = omega arith
+overflow_add-n : tie.Need-overflow_add-n invariant-loop-n decreases-loop-n
+overflow_add-n c = omega arith
 
-loop-less : tie.Need-loop-smaller invariant_loop decreases_loop
-loop-less c = omega arith
+loop-n-smaller : tie.Need-loop-n-smaller invariant-loop-n decreases-loop-n
+loop-n-smaller c = omega arith
 
-loop-again : tie.Need-loop-preserved invariant_loop decreases_loop
-loop-again c = (omega arith, c.step.ensures)
+loop-n-preserved : tie.Need-loop-n-preserved invariant-loop-n decreases-loop-n
+loop-n-preserved c = (omega arith, c.step-t.ensures)
 
-returns : tie.Need-returns invariant_loop decreases_loop
+returns : tie.Need-returns invariant-loop-n decreases-loop-n
 returns c = tt
 
 pub decode_all_spec : {M : Type 1} → statement M
 decode_all_spec =
     tie.close
     (tie.spec
-    invariant_loop
-    decreases_loop
-    loop-holds
-    sign-at-requires
+    invariant-loop-n
+    decreases-loop-n
+    loop-n-init
+    sign_at-sign-requires
     received-requires
-    step-requires
-    add-n
-    loop-less
-    loop-again
+    step-t-requires
+    overflow_add-n
+    loop-n-smaller
+    loop-n-preserved
     returns)

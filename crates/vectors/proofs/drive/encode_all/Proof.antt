@@ -6,49 +6,49 @@ use Rattle.vectors.specs.Ready.{Ready}
 use Rattle.vectors.proofs.drive.encode_all.Statement.{statement}
 use Rattle.vectors.proofs.drive.encode_all.Tie as tie
 
-abbrev invariant_loop : tie.invariant_loop
-invariant_loop run octets dumped t₀ n₀ t n = (n ≤ length octets) × Ready t
+abbrev invariant-loop-n : tie.invariant-loop-n
+invariant-loop-n run octets dumped t₀ n₀ t n = (n ≤ length octets) × Ready t
 
-abbrev decreases_loop : tie.decreases_loop
-decreases_loop run octets dumped t₀ n₀ t n = length octets - n
+abbrev decreases-loop-n : tie.decreases-loop-n
+decreases-loop-n run octets dumped t₀ n₀ t n = length octets - n
 
-loop-holds : tie.Need-loop-init invariant_loop decreases_loop
-loop-holds c = (omega arith, c.before.requires.1)
+loop-n-init : tie.Need-loop-n-init invariant-loop-n decreases-loop-n
+loop-n-init c = (omega arith, c.before.requires.1)
 
-shared-slice-read-input : tie.Need-shared-slice-read-input invariant_loop decreases_loop
-shared-slice-read-input c = omega arith
+bounds-octets-n : tie.Need-bounds-octets-n invariant-loop-n decreases-loop-n
+bounds-octets-n c = omega arith
 
-sent-requires : tie.Need-sent-requires invariant_loop decreases_loop
-sent-requires c κs = (c.before.before.before.before.requires.0, c.before.before.loop.invariant.1)
+sent-requires : tie.Need-sent-requires invariant-loop-n decreases-loop-n
+sent-requires c κs = (c.before.before.before.before.requires.0, c.before.before.loop-n.invariant.1)
 
-step-requires : tie.Need-step-requires invariant_loop decreases_loop
-step-requires c κs = ((c.before.before.before.before.before.requires.0, c.before.before.before.loop.invariant.1), c.sent.ensures)
+step-t-requires : tie.Need-step-t-requires invariant-loop-n decreases-loop-n
+step-t-requires c κs = ((c.before.before.before.before.before.requires.0, c.before.before.before.loop-n.invariant.1), c.sent.ensures)
 
-add-n : tie.Need-overflow-add-n invariant_loop decreases_loop
-add-n c = omega (arith, c.before.before.before.before.before.before.well-formed.1.1.0.0)
+overflow_add-n : tie.Need-overflow_add-n invariant-loop-n decreases-loop-n
+overflow_add-n c = omega (arith, c.before.before.before.before.before.before.well_formed.1.1.0.0)
 
-loop-less : tie.Need-loop-smaller invariant_loop decreases_loop
-loop-less c = omega arith
+loop-n-smaller : tie.Need-loop-n-smaller invariant-loop-n decreases-loop-n
+loop-n-smaller c = omega arith
 
-loop-again : tie.Need-loop-preserved invariant_loop decreases_loop
-loop-again c = (omega arith, c.step.ensures)
+loop-n-preserved : tie.Need-loop-n-preserved invariant-loop-n decreases-loop-n
+loop-n-preserved c = (omega arith, c.step-t.ensures)
 
-returns : tie.Need-returns invariant_loop decreases_loop
+returns : tie.Need-returns invariant-loop-n decreases-loop-n
 returns c =
-    let kept = c.before.loop.invariant.1 in
+    let kept = c.before.loop-n.invariant.1 in
     record { encoder = kept.encoder; decoder = kept.decoder }
 
 pub encode_all_spec : {M : Type 1} → statement M
 encode_all_spec =
     tie.close
     (tie.spec
-    invariant_loop
-    decreases_loop
-    loop-holds
-    shared-slice-read-input
+    invariant-loop-n
+    decreases-loop-n
+    loop-n-init
+    bounds-octets-n
     sent-requires
-    step-requires
-    add-n
-    loop-less
-    loop-again
+    step-t-requires
+    overflow_add-n
+    loop-n-smaller
+    loop-n-preserved
     returns)

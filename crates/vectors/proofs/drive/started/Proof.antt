@@ -7,21 +7,21 @@ use Rattle.vectors.proofs.Keeps.{ready_of}
 use Rattle.vectors.proofs.drive.started.Statement.{statement}
 use Rattle.vectors.proofs.drive.started.Tie as tie
 
-from-reset : (c : tie.After-uncounted) → Ready c.uncounted.result
+from-reset : (c : tie.After-uncounted-t) → Ready c.uncounted-t.result
 from-reset c =
-    let kept : MemoryInRange c.before.reset-memory.result = rw c.before.reset-memory.ensures reset_memory_in_range in
-    ready_of c.uncounted.ensures kept kept
+    let kept : MemoryInRange c.before.reset_memory-m.result = rw c.before.reset_memory-m.ensures reset_memory_in_range in
+    ready_of c.uncounted-t.ensures kept kept
 
-encode-all-requires : tie.Need-encode-all-requires
-encode-all-requires c κs = (c.before.before.before.before.before.before.requires.0, from-reset c.before.before.before)
+encode_all-h-requires : tie.Need-encode_all-h-requires
+encode_all-h-requires c κs = (c.before.before.before.before.before.before.requires.0, from-reset c.before.before.before)
+
+returns-then-run : tie.Need-returns-then-run
+returns-then-run c =
+    let homed = c.before.before.before.encode_all-h.ensures in
+    ready_of c.uncounted.ensures homed.encoder-1 homed.decoder-1
 
 returns : tie.Need-returns
-returns c =
-    let homed = c.before.before.before.encode-all.ensures in
-    ready_of c.uncounted2.ensures homed.encoder homed.decoder
-
-returns-2 : tie.Need-returns-2
-returns-2 c = from-reset c.before
+returns c = from-reset c.before
 
 pub started_spec : {M : Type 1} → statement M
 started_spec =
@@ -31,7 +31,7 @@ started_spec =
     (search rules)
     (search rules)
     (search rules)
-    encode-all-requires
+    encode_all-h-requires
     (search rules)
-    returns
-    returns-2)
+    returns-then-run
+    returns)

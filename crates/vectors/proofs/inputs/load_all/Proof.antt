@@ -7,51 +7,51 @@ use lib.ListN.{length}
 use Rattle.vectors.proofs.inputs.load_all.Statement.{statement}
 use Rattle.vectors.proofs.inputs.load_all.Tie as tie
 
-abbrev invariant_loop : tie.invariant_loop
-invariant_loop pcm₀ names file₀ pcm file = (file ≤ 8) × (length pcm ≡ length pcm₀)
+abbrev invariant-loop-file : tie.invariant-loop-file
+invariant-loop-file pcm₀ names file₀ pcm file = (file ≤ 8) × (length pcm ≡ length pcm₀)
 
-abbrev decreases_loop : tie.decreases_loop
-decreases_loop pcm₀ names file₀ pcm file = 8 - file
+abbrev decreases-loop-file : tie.decreases-loop-file
+decreases-loop-file pcm₀ names file₀ pcm file = 8 - file
 
-loop-holds : tie.Need-loop-init invariant_loop decreases_loop
-loop-holds c = omega arith
+loop-file-init : tie.Need-loop-file-init invariant-loop-file decreases-loop-file
+loop-file-init c = omega arith
 
-load-file-requires : tie.Need-load-file-requires invariant_loop decreases_loop
-load-file-requires c κs = (omega arith, (omega arith, omega arith))
+load_file-requires : tie.Need-load_file-requires invariant-loop-file decreases-loop-file
+load_file-requires c κs = (omega arith, (omega arith, omega arith))
 
-same_length : tie.Need-same-length invariant_loop decreases_loop
-same_length c = omega arith
+shape_of-pcm-then-not-load_file : tie.Need-shape_of-pcm-then-not-load_file invariant-loop-file decreases-loop-file
+shape_of-pcm-then-not-load_file c = omega arith
 
-returns : tie.Need-returns invariant_loop decreases_loop
+returns-then-not-load_file : tie.Need-returns-then-not-load_file invariant-loop-file decreases-loop-file
+returns-then-not-load_file c = tt
+
+overflow_add-file : tie.Need-overflow_add-file invariant-loop-file decreases-loop-file
+overflow_add-file c = omega arith
+
+loop-file-smaller : tie.Need-loop-file-smaller invariant-loop-file decreases-loop-file
+loop-file-smaller c = omega arith
+
+loop-file-preserved : tie.Need-loop-file-preserved invariant-loop-file decreases-loop-file
+loop-file-preserved c = omega arith
+
+shape_of-pcm : tie.Need-shape_of-pcm invariant-loop-file decreases-loop-file
+shape_of-pcm c = omega arith
+
+returns : tie.Need-returns invariant-loop-file decreases-loop-file
 returns c = tt
-
-add-file : tie.Need-overflow-add-file invariant_loop decreases_loop
-add-file c = omega arith
-
-loop-less : tie.Need-loop-smaller invariant_loop decreases_loop
-loop-less c = omega arith
-
-loop-again : tie.Need-loop-preserved invariant_loop decreases_loop
-loop-again c = omega arith
-
-same-length-2 : tie.Need-same-length-2 invariant_loop decreases_loop
-same-length-2 c = omega arith
-
-returns-2 : tie.Need-returns-2 invariant_loop decreases_loop
-returns-2 c = tt
 
 pub load_all_spec : {M : Type 1} → statement M
 load_all_spec =
     tie.close
     (tie.spec
-    invariant_loop
-    decreases_loop
-    loop-holds
-    load-file-requires
-    same_length
-    returns
-    add-file
-    loop-less
-    loop-again
-    same-length-2
-    returns-2)
+    invariant-loop-file
+    decreases-loop-file
+    loop-file-init
+    load_file-requires
+    shape_of-pcm-then-not-load_file
+    returns-then-not-load_file
+    overflow_add-file
+    loop-file-smaller
+    loop-file-preserved
+    shape_of-pcm
+    returns)

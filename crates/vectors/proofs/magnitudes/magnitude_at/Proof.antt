@@ -5,17 +5,17 @@ use native.Mathlib.Omega.{arith}
 use Rattle.vectors.proofs.magnitudes.magnitude_at.Statement.{statement}
 use Rattle.vectors.proofs.magnitudes.magnitude_at.Tie as tie
 
+returns-then-width-eq5 : tie.Need-returns-then-width-eq5
+returns-then-width-eq5 c = rw c.if-width-eq5.true (omega arith)
+
+returns-then-width-eq4 : tie.Need-returns-then-width-eq4
+returns-then-width-eq4 c = rw c.if-width-eq4.true (omega arith)
+
+returns-then-width-eq3 : tie.Need-returns-then-width-eq3
+returns-then-width-eq3 c = rw c.if-width-eq3.true (omega arith)
+
 returns : tie.Need-returns
-returns c = rw c.if1.true (omega arith)
-
-returns-2 : tie.Need-returns-2
-returns-2 c = rw c.if2.true (omega arith)
-
-returns-3 : tie.Need-returns-3
-returns-3 c = rw c.if3.true (omega arith)
-
-returns-4 : tie.Need-returns-4
-returns-4 c =
+returns c =
     let narrow : c.before.before.before.before.before.args.width ≡ 2 = omega arith in
     rw narrow (omega arith)
 
@@ -26,7 +26,7 @@ magnitude_at_spec =
     (search rules)
     (search rules)
     (search rules)
-    returns
-    returns-2
-    returns-3
-    returns-4)
+    returns-then-width-eq5
+    returns-then-width-eq4
+    returns-then-width-eq3
+    returns)

@@ -39,13 +39,13 @@ runs =
     ∷ 16_0256
     ∷ []
 
+returns-then-at-eq0 : tie.Need-returns-then-at-eq0
+unfolding runs
+returns-then-at-eq0 c = leb→le _ _ (below_at (λ k. leb (get_or runs k 0 / 100000 % 10) 7) 27 c.before.args.row tt c.before.requires)
+
 returns : tie.Need-returns
 unfolding runs
-returns c = leb→le _ _ (below_at (λ k. leb (get_or runs k 0 / 100000 % 10) 7) 27 c.before.args.row tt c.before.requires)
-
-returns-2 : tie.Need-returns-2
-unfolding runs
-returns-2 c = leb→le _ _ (below_at (λ k. leb (get_or runs k 0 / 10000 % 10) 7) 27 c.before.args.row tt c.before.requires)
+returns c = leb→le _ _ (below_at (λ k. leb (get_or runs k 0 / 10000 % 10) 7) 27 c.before.args.row tt c.before.requires)
 
 pub magnitude_in_spec : {M : Type 1} → statement M
-magnitude_in_spec = tie.close (tie.spec (search rules) (search rules) (search rules) returns (search rules) returns-2)
+magnitude_in_spec = tie.close (tie.spec (search rules) (search rules) (search rules) returns-then-at-eq0 (search rules) returns)

@@ -4,47 +4,47 @@ use native.Mathlib.Omega.{arith}
 use Rattle.vectors.proofs.magnitudes.spot_of.Statement.{statement}
 use Rattle.vectors.proofs.magnitudes.spot_of.Tie as tie
 
-abbrev invariant_loop : tie.invariant_loop
-invariant_loop place row₀ at₀ row at = row < 27
+abbrev invariant-loop-row : tie.invariant-loop-row
+invariant-loop-row place row₀ at₀ row at = row < 27
 
-abbrev decreases_loop : tie.decreases_loop
-decreases_loop place row₀ at₀ row at = 27 - row
+abbrev decreases-loop-row : tie.decreases-loop-row
+decreases-loop-row place row₀ at₀ row at = 27 - row
 
-loop-holds : tie.Need-loop-init invariant_loop decreases_loop
-loop-holds c = omega arith
+loop-row-init : tie.Need-loop-row-init invariant-loop-row decreases-loop-row
+loop-row-init c = omega arith
 
-sub-loop : tie.Need-overflow-sub-loop invariant_loop decreases_loop
-sub-loop c = omega arith
+overflow_sub-t-5 : tie.Need-overflow_sub-t-5 invariant-loop-row decreases-loop-row
+overflow_sub-t-5 c = omega arith
 
-length-of-requires : tie.Need-length-of-requires invariant_loop decreases_loop
-length-of-requires c κs = omega arith
+length_of-length-requires : tie.Need-length_of-length-requires invariant-loop-row decreases-loop-row
+length_of-length-requires c κs = omega arith
 
-returns : tie.Need-returns invariant_loop decreases_loop
+returns-then-at-length : tie.Need-returns-then-at-length invariant-loop-row decreases-loop-row
+returns-then-at-length c = omega arith
+
+overflow_add-row : tie.Need-overflow_add-row invariant-loop-row decreases-loop-row
+overflow_add-row c = omega arith
+
+loop-row-smaller : tie.Need-loop-row-smaller invariant-loop-row decreases-loop-row
+loop-row-smaller c = omega arith
+
+loop-row-preserved : tie.Need-loop-row-preserved invariant-loop-row decreases-loop-row
+loop-row-preserved c = omega arith
+
+returns : tie.Need-returns invariant-loop-row decreases-loop-row
 returns c = omega arith
-
-add_row : tie.Need-overflow-add-row invariant_loop decreases_loop
-add_row c = omega arith
-
-loop-less : tie.Need-loop-smaller invariant_loop decreases_loop
-loop-less c = omega arith
-
-loop-again : tie.Need-loop-preserved invariant_loop decreases_loop
-loop-again c = omega arith
-
-returns-2 : tie.Need-returns-2 invariant_loop decreases_loop
-returns-2 c = omega arith
 
 pub spot_of_spec : {M : Type 1} → statement M
 spot_of_spec =
     tie.close
     (tie.spec
-    invariant_loop
-    decreases_loop
-    loop-holds
-    sub-loop
-    length-of-requires
-    returns
-    add_row
-    loop-less
-    loop-again
-    returns-2)
+    invariant-loop-row
+    decreases-loop-row
+    loop-row-init
+    overflow_sub-t-5
+    length_of-length-requires
+    returns-then-at-length
+    overflow_add-row
+    loop-row-smaller
+    loop-row-preserved
+    returns)
