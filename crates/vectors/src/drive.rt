@@ -27,7 +27,7 @@ pub struct Track {
 
 pub fn perform(run: Run, pcm: &[u8], dumped: bool) -> Track
     requires pair { Pair run.width run.core }
-    requires input_octets_in_bounds { input_octets ≤ length pcm.now }
+    requires inputs { input_octets ≤ length pcm.now }
 {
     let t = started(run, pcm);
     let kind = run.kind;
@@ -52,7 +52,7 @@ fn input_of(kind: Kind) -> usize
 // From reset, and homed where the run asks it
 fn started(run: Run, pcm: &[u8]) -> Track
     requires pair { Pair run.width run.core }
-    requires input_octets_in_bounds { input_octets ≤ length pcm.now }
+    requires inputs { input_octets ≤ length pcm.now }
     ensures { Ready result }
 {
     let m = reset_memory();
@@ -80,7 +80,7 @@ fn uncounted(encoder: Memory, decoder: Memory) -> Track
 
 // A codeword goes to the decoder, and is counted. Where there is an encoder, e is what it made of its octet.
 fn step(run: Run, t: Track, e: Encoded, note: Note) -> Track
-    requires pair { Pair run.width run.core × Ready t }
+    requires ready { Pair run.width run.core × Ready t }
     requires sent { Sent run.width e }
     ensures { Ready result }
 {

@@ -40,8 +40,8 @@ pub fn load(rt: &HostRuntime, pcm: &mut [u8]) -> bool
 }
 
 fn load_all(rt: &HostRuntime, pcm: &mut [u8], names: &[&str]) -> bool
-    requires input_octets_in_bounds { input_octets ≤ length pcm.old }
-    requires in_bounds { 8 ≤ length names.now }
+    requires room { input_octets ≤ length pcm.old }
+    requires named { 8 ≤ length names.now }
 {
     let mut file = 0;
     while file < FILES {
@@ -54,9 +54,9 @@ fn load_all(rt: &HostRuntime, pcm: &mut [u8], names: &[&str]) -> bool
 }
 
 fn load_file(rt: &HostRuntime, pcm: &mut [u8], names: &[&str], file: usize) -> bool
-    requires input_octets_in_bounds { input_octets ≤ length pcm.old }
-    requires in_bounds { 8 ≤ length names.now }
-    requires file_bound { file < 8 }
+    requires room { input_octets ≤ length pcm.old }
+    requires named { 8 ≤ length names.now }
+    requires counted { file < 8 }
 {
     let part = part_of(file);
     let from = part.from;
@@ -138,8 +138,8 @@ fn why(error: Error) -> Line {
 
 // Of an input, by the number of its file of mu-law
 pub fn octets_of(pcm: &[u8], input: usize, law: u8) -> &[u8]
-    requires input_octets_in_bounds { input_octets ≤ length pcm.now }
-    requires input_bound { (input ≤ 6) × (law ≤ 1) }
+    requires inputs { input_octets ≤ length pcm.now }
+    requires place { (input ≤ 6) × (law ≤ 1) }
 {
     let part = part_of(input + law as usize);
     let from = part.from;

@@ -18,7 +18,7 @@ encode_all-h-requires c κs = (c.before.before.before.before.before.before.requi
 returns-then-run : tie.Need-returns-then-run
 returns-then-run c =
     let homed = c.before.before.before.encode_all-h.ensures in
-    ready_of c.uncounted.ensures homed.encoder-1 homed.decoder-1
+    ready_of c.uncounted.ensures homed.encoder homed.decoder
 
 returns : tie.Need-returns
 returns c = from-reset c.before

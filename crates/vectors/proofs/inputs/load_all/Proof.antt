@@ -8,10 +8,10 @@ use Rattle.vectors.proofs.inputs.load_all.Statement.{statement}
 use Rattle.vectors.proofs.inputs.load_all.Tie as tie
 
 abbrev invariant-loop-file : tie.invariant-loop-file
-invariant-loop-file pcm₀ names file₀ pcm file = (file ≤ 8) × (length pcm ≡ length pcm₀)
+invariant-loop-file rt pcm₀ names file₀ pcm file = (file ≤ 8) × (length pcm ≡ length pcm₀)
 
 abbrev decreases-loop-file : tie.decreases-loop-file
-decreases-loop-file pcm₀ names file₀ pcm file = 8 - file
+decreases-loop-file rt pcm₀ names file₀ pcm file = 8 - file
 
 loop-file-init : tie.Need-loop-file-init invariant-loop-file decreases-loop-file
 loop-file-init c = omega arith
