@@ -22,11 +22,11 @@ fn send(near: State, far: State) {
     let mut radio = [0; 103];
     let mut thin = [0; 63];
     let mut sound = [0; 160];
-    let sent = encode(near, 0, 2, 5, &speech, &mut radio); // mu_law in, a numbered frame, 40 kbit/s
+    let sent = encode(near, 0, 2, 5, &speech, &mut radio); // mu-law in, a numbered frame, 40 kbit/s
     let n = sent.octets;
     let kept = drop_planes(&radio[..n], 3, &mut thin); // two planes thrown away: 24 kbit/s
     let m = kept.octets;
-    let decoded = decode(far, 1, &thin[..m], &mut sound); // A_law out
+    let decoded = decode(far, 1, &thin[..m], &mut sound); // A-law out
     let sent_reply = sent.reply;
     let kept_reply = kept.reply;
     let decode_reply = decoded.reply;
