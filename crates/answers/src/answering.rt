@@ -1,7 +1,7 @@
 // Each call is made on what a line's fields say, and its answer is said behind the line.
 use crate::fields::{octet_at, octets_in, part};
 use crate::forms::fits;
-use crate::linear::{answer_decode_linear, answer_encode_linear};
+use crate::linear_end::{answer_decode_linear, answer_encode_linear};
 use crate::saying::{say, say_number, say_octets, say_reply, say_state, say_wrong};
 use crate::states::state_in;
 use crate::texts::{answer_end_text, answer_end_values, answer_read, answer_write};

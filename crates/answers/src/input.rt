@@ -4,8 +4,7 @@ ghost use Rattle.std.specs.Prelude.{◌≡◌, length};
 ghost use Rattle.io.specs.Counts.{IsPrefixLen};
 
 use crate::fields::until;
-use text::STDIN;
-use text::{least, within};
+use text::{STDIN, least, within};
 
 // What is not yet answered stands in the window from index `from` to index `to`
 #[derive(Clone, Copy)]

@@ -5,7 +5,7 @@ mod answering;
 mod fields;
 mod forms;
 mod input;
-mod linear;
+mod linear_end;
 mod places;
 mod readers;
 mod samples;

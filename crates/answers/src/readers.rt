@@ -1,9 +1,8 @@
 // A reader's verdict, place and numbers between commas.
 use crate::fields::{has_part, number_in, part};
 use crate::places::{is_place, place_in, placed};
-use text::STDOUT;
 use sequence::reader::{Reader, Refusal, Verdict};
-use text::Line;
+use text::{Line, STDOUT};
 
 // A sound verdict has no place but 0.
 pub fn is_reader(field: &[u8]) -> bool {

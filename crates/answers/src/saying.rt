@@ -1,10 +1,9 @@
 // What is said on standard output, as it comes: a line, the fields of its answer each behind a space, what is wrong.
 ghost use Rattle.std.specs.Prelude.{◌<◌, ◌≤◌};
 
-use text::STDOUT;
 use replies::{Reply, number_of};
 use state::State;
-use text::Line;
+use text::{Line, STDOUT};
 
 // How many octets are written as digits at a time
 const PIECE: usize = 2048;

@@ -1,9 +1,8 @@
 // A writer's stage and numbers between commas.
 use crate::fields::has_part;
 use crate::readers::{number_at, octet_at};
-use text::STDOUT;
 use sequence_writer::{Stage, Writer};
-use text::Line;
+use text::{Line, STDOUT};
 
 pub fn is_writer(field: &[u8]) -> bool {
     (number_at(field, 0) <= 3)

@@ -3,55 +3,55 @@ use Rattle.std.proofs.Common.{◌≡◌, ◌-◌, ◌^◌, length, arith}
 use Rattle.answers.proofs.answer_all.Statement.{statement}
 use Rattle.answers.proofs.answer_all.Tie as tie
 
-abbrev invariant_loop : tie.invariant_loop
-invariant_loop text₀ held₀ turns₀ text held turns = length text ≡ length text₀
+abbrev invariant-loop-turns : tie.invariant-loop-turns
+invariant-loop-turns text₀ held₀ turns₀ text held turns = length text ≡ length text₀
 
-abbrev decreases_loop : tie.decreases_loop
-decreases_loop text₀ held₀ turns₀ text held turns = 2 ^ 64 - turns
+abbrev decreases-loop-turns : tie.decreases-loop-turns
+decreases-loop-turns text₀ held₀ turns₀ text held turns = 2 ^ 64 - turns
 
-begun-requires : tie.Need-begun-requires invariant_loop decreases_loop
-begun-requires c κs = tt
+begun-held-requires : tie.Need-begun-held-requires invariant-loop-turns decreases-loop-turns
+begun-held-requires c κs = tt
 
-loop-holds : tie.Need-loop-init invariant_loop decreases_loop
-loop-holds c = omega arith
+loop-turns-init : tie.Need-loop-turns-init invariant-loop-turns decreases-loop-turns
+loop-turns-init c = omega arith
 
-turn-requires : tie.Need-turn-requires invariant_loop decreases_loop
-turn-requires c κs = tt
+turn-held-requires : tie.Need-turn-held-requires invariant-loop-turns decreases-loop-turns
+turn-held-requires c κs = tt
 
-add-turns : tie.Need-overflow-add-turns invariant_loop decreases_loop
-add-turns c = omega arith
+overflow_add-turns : tie.Need-overflow_add-turns invariant-loop-turns decreases-loop-turns
+overflow_add-turns c = omega arith
 
-loop-less : tie.Need-loop-smaller invariant_loop decreases_loop
-loop-less c = omega arith
+loop-turns-smaller : tie.Need-loop-turns-smaller invariant-loop-turns decreases-loop-turns
+loop-turns-smaller c = omega arith
 
-loop-again : tie.Need-loop-preserved invariant_loop decreases_loop
-loop-again c = omega arith
+loop-turns-preserved : tie.Need-loop-turns-preserved invariant-loop-turns decreases-loop-turns
+loop-turns-preserved c = omega arith
 
-same_length : tie.Need-same-length invariant_loop decreases_loop
-same_length c = omega arith
+shape_of-text-else-not-held : tie.Need-shape_of-text-else-not-held invariant-loop-turns decreases-loop-turns
+shape_of-text-else-not-held c = omega arith
 
-returns : tie.Need-returns invariant_loop decreases_loop
-returns c = tt
+returns-else-not-held : tie.Need-returns-else-not-held invariant-loop-turns decreases-loop-turns
+returns-else-not-held c = tt
 
-same-length-2 : tie.Need-same-length-2 invariant_loop decreases_loop
-same-length-2 c = omega arith
+shape_of-text-after-loop-turns : tie.Need-shape_of-text-after-loop-turns invariant-loop-turns decreases-loop-turns
+shape_of-text-after-loop-turns c = omega arith
 
-returns-2 : tie.Need-returns-2 invariant_loop decreases_loop
-returns-2 c = tt
+returns-after-loop-turns : tie.Need-returns-after-loop-turns invariant-loop-turns decreases-loop-turns
+returns-after-loop-turns c = tt
 
 pub answer_all_spec : {M : Type 1} → statement M
 answer_all_spec =
     tie.close
     (tie.spec
-    invariant_loop
-    decreases_loop
-    begun-requires
-    loop-holds
-    turn-requires
-    add-turns
-    loop-less
-    loop-again
-    same_length
-    returns
-    same-length-2
-    returns-2)
+    invariant-loop-turns
+    decreases-loop-turns
+    begun-held-requires
+    loop-turns-init
+    turn-held-requires
+    overflow_add-turns
+    loop-turns-smaller
+    loop-turns-preserved
+    shape_of-text-else-not-held
+    returns-else-not-held
+    shape_of-text-after-loop-turns
+    returns-after-loop-turns)

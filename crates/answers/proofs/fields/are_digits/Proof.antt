@@ -3,47 +3,47 @@ use Rattle.std.proofs.Common.{◌-◌, ◌≤◌, length, arith}
 use Rattle.answers.proofs.fields.are_digits.Statement.{statement}
 use Rattle.answers.proofs.fields.are_digits.Tie as tie
 
-abbrev invariant_loop : tie.invariant_loop
-invariant_loop field i₀ i = i ≤ length field
+abbrev invariant-loop-i : tie.invariant-loop-i
+invariant-loop-i field i₀ i = i ≤ length field
 
-abbrev decreases_loop : tie.decreases_loop
-decreases_loop field i₀ i = length field - i
+abbrev decreases-loop-i : tie.decreases-loop-i
+decreases-loop-i field i₀ i = length field - i
 
-loop-holds : tie.Need-loop-init invariant_loop decreases_loop
-loop-holds c = omega arith
+loop-i-init : tie.Need-loop-i-init invariant-loop-i decreases-loop-i
+loop-i-init c = omega arith
 
-shared-slice-read-digit-of : tie.Need-shared-slice-read-digit-of invariant_loop decreases_loop
-shared-slice-read-digit-of c = omega arith
+bounds-field-i : tie.Need-bounds-field-i invariant-loop-i decreases-loop-i
+bounds-field-i c = omega arith
 
-digit-of-requires : tie.Need-digit-of-requires invariant_loop decreases_loop
-digit-of-requires c κs = tt
+digit_of-requires : tie.Need-digit_of-requires invariant-loop-i decreases-loop-i
+digit_of-requires c κs = tt
 
-returns : tie.Need-returns invariant_loop decreases_loop
+returns-then-digit_of-gt15 : tie.Need-returns-then-digit_of-gt15 invariant-loop-i decreases-loop-i
+returns-then-digit_of-gt15 c = tt
+
+overflow_add-i : tie.Need-overflow_add-i invariant-loop-i decreases-loop-i
+overflow_add-i c = omega arith
+
+loop-i-smaller : tie.Need-loop-i-smaller invariant-loop-i decreases-loop-i
+loop-i-smaller c = omega arith
+
+loop-i-preserved : tie.Need-loop-i-preserved invariant-loop-i decreases-loop-i
+loop-i-preserved c = omega arith
+
+returns : tie.Need-returns invariant-loop-i decreases-loop-i
 returns c = tt
-
-add-i : tie.Need-overflow-add-i invariant_loop decreases_loop
-add-i c = omega arith
-
-loop-less : tie.Need-loop-smaller invariant_loop decreases_loop
-loop-less c = omega arith
-
-loop-again : tie.Need-loop-preserved invariant_loop decreases_loop
-loop-again c = omega arith
-
-returns-2 : tie.Need-returns-2 invariant_loop decreases_loop
-returns-2 c = tt
 
 pub are_digits_spec : {M : Type 1} → statement M
 are_digits_spec =
     tie.close
     (tie.spec
-    invariant_loop
-    decreases_loop
-    loop-holds
-    shared-slice-read-digit-of
-    digit-of-requires
-    returns
-    add-i
-    loop-less
-    loop-again
-    returns-2)
+    invariant-loop-i
+    decreases-loop-i
+    loop-i-init
+    bounds-field-i
+    digit_of-requires
+    returns-then-digit_of-gt15
+    overflow_add-i
+    loop-i-smaller
+    loop-i-preserved
+    returns)

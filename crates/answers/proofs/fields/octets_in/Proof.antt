@@ -4,71 +4,71 @@ use Rattle.io.proofs.Counting.{prefix_len_of_le}
 use Rattle.answers.proofs.fields.octets_in.Statement.{statement}
 use Rattle.answers.proofs.fields.octets_in.Tie as tie
 
-abbrev invariant_loop : tie.invariant_loop
-invariant_loop field into₀ n i₀ into i = (i ≤ n) × (length into ≡ length into₀)
+abbrev invariant-loop-i : tie.invariant-loop-i
+invariant-loop-i field into₀ n i₀ into i = (i ≤ n) × (length into ≡ length into₀)
 
-abbrev decreases_loop : tie.decreases_loop
-decreases_loop field into₀ n i₀ into i = n - i
+abbrev decreases-loop-i : tie.decreases-loop-i
+decreases-loop-i field into₀ n i₀ into i = n - i
 
-least-requires : tie.Need-least-requires invariant_loop decreases_loop
-least-requires c κs = tt
+least-n-requires : tie.Need-least-n-requires invariant-loop-i decreases-loop-i
+least-n-requires c κs = tt
 
-loop-holds : tie.Need-loop-init invariant_loop decreases_loop
-loop-holds c = omega arith
+loop-i-init : tie.Need-loop-i-init invariant-loop-i decreases-loop-i
+loop-i-init c = omega arith
 
-mul-octet-of : tie.Need-overflow-mul-octet-of invariant_loop decreases_loop
-mul-octet-of c = omega arith
+overflow_mul-i : tie.Need-overflow_mul-i invariant-loop-i decreases-loop-i
+overflow_mul-i c = omega arith
 
-shared-slice-read-octet-of : tie.Need-shared-slice-read-octet-of invariant_loop decreases_loop
-shared-slice-read-octet-of c = omega arith
+bounds-field-i : tie.Need-bounds-field-i invariant-loop-i decreases-loop-i
+bounds-field-i c = omega arith
 
-mul-octet-of-2 : tie.Need-overflow-mul-octet-of-2 invariant_loop decreases_loop
-mul-octet-of-2 c = omega arith
+overflow_mul-i-in-loop-i : tie.Need-overflow_mul-i-in-loop-i invariant-loop-i decreases-loop-i
+overflow_mul-i-in-loop-i c = omega arith
 
-add-octet-of : tie.Need-overflow-add-octet-of invariant_loop decreases_loop
-add-octet-of c = omega arith
+overflow_add-i : tie.Need-overflow_add-i invariant-loop-i decreases-loop-i
+overflow_add-i c = omega arith
 
-shared-slice-read-octet-of-2 : tie.Need-shared-slice-read-octet-of-2 invariant_loop decreases_loop
-shared-slice-read-octet-of-2 c = omega arith
+bounds-field-i-in-loop-i : tie.Need-bounds-field-i-in-loop-i invariant-loop-i decreases-loop-i
+bounds-field-i-in-loop-i c = omega arith
 
-octet-of-requires : tie.Need-octet-of-requires invariant_loop decreases_loop
-octet-of-requires c κs = tt
+octet_of-requires : tie.Need-octet_of-requires invariant-loop-i decreases-loop-i
+octet_of-requires c κs = tt
 
-slice-write-into : tie.Need-slice-write-into invariant_loop decreases_loop
-slice-write-into c = omega arith
+bounds-into-i : tie.Need-bounds-into-i invariant-loop-i decreases-loop-i
+bounds-into-i c = omega arith
 
-add-i : tie.Need-overflow-add-i invariant_loop decreases_loop
-add-i c = omega arith
+overflow_add-i-in-loop-i : tie.Need-overflow_add-i-in-loop-i invariant-loop-i decreases-loop-i
+overflow_add-i-in-loop-i c = omega arith
 
-loop-less : tie.Need-loop-smaller invariant_loop decreases_loop
-loop-less c = omega arith
+loop-i-smaller : tie.Need-loop-i-smaller invariant-loop-i decreases-loop-i
+loop-i-smaller c = omega arith
 
-loop-again : tie.Need-loop-preserved invariant_loop decreases_loop
-loop-again c = simp length-set (omega arith)
+loop-i-preserved : tie.Need-loop-i-preserved invariant-loop-i decreases-loop-i
+loop-i-preserved c = simp length-set (omega arith)
 
-same_length : tie.Need-same-length invariant_loop decreases_loop
-same_length c = omega arith
+shape_of-into : tie.Need-shape_of-into invariant-loop-i decreases-loop-i
+shape_of-into c = omega arith
 
-returns : tie.Need-returns invariant_loop decreases_loop
+returns : tie.Need-returns invariant-loop-i decreases-loop-i
 returns c = prefix_len_of_le _ _ (omega arith)
 
 pub octets_in_spec : {M : Type 1} → statement M
 octets_in_spec =
     tie.close
     (tie.spec
-    invariant_loop
-    decreases_loop
-    least-requires
-    loop-holds
-    mul-octet-of
-    shared-slice-read-octet-of
-    mul-octet-of-2
-    add-octet-of
-    shared-slice-read-octet-of-2
-    octet-of-requires
-    slice-write-into
-    add-i
-    loop-less
-    loop-again
-    same_length
+    invariant-loop-i
+    decreases-loop-i
+    least-n-requires
+    loop-i-init
+    overflow_mul-i
+    bounds-field-i
+    overflow_mul-i-in-loop-i
+    overflow_add-i
+    bounds-field-i-in-loop-i
+    octet_of-requires
+    bounds-into-i
+    overflow_add-i-in-loop-i
+    loop-i-smaller
+    loop-i-preserved
+    shape_of-into
     returns)

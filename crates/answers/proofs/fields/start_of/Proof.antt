@@ -3,51 +3,51 @@ use Rattle.std.proofs.Common.{◌-◌, ◌≤◌, length, arith}
 use Rattle.answers.proofs.fields.start_of.Statement.{statement}
 use Rattle.answers.proofs.fields.start_of.Tie as tie
 
-abbrev invariant_loop : tie.invariant_loop
-invariant_loop s k mark left₀ i₀ left i = i ≤ length s
+abbrev invariant-loop-i : tie.invariant-loop-i
+invariant-loop-i s k mark left₀ i₀ left i = i ≤ length s
 
-abbrev decreases_loop : tie.decreases_loop
-decreases_loop s k mark left₀ i₀ left i = length s - i
+abbrev decreases-loop-i : tie.decreases-loop-i
+decreases-loop-i s k mark left₀ i₀ left i = length s - i
 
-loop-holds : tie.Need-loop-init invariant_loop decreases_loop
-loop-holds c = omega arith
+loop-i-init : tie.Need-loop-i-init invariant-loop-i decreases-loop-i
+loop-i-init c = omega arith
 
-returns : tie.Need-returns invariant_loop decreases_loop
-returns c = tt
+returns-then-left-eq0 : tie.Need-returns-then-left-eq0 invariant-loop-i decreases-loop-i
+returns-then-left-eq0 c = tt
 
-shared-slice-read-if2 : tie.Need-shared-slice-read-if2 invariant_loop decreases_loop
-shared-slice-read-if2 c = omega arith
+bounds-s-i : tie.Need-bounds-s-i invariant-loop-i decreases-loop-i
+bounds-s-i c = omega arith
 
-sub-left : tie.Need-overflow-sub-left invariant_loop decreases_loop
-sub-left c = omega arith
+overflow_sub-left : tie.Need-overflow_sub-left invariant-loop-i decreases-loop-i
+overflow_sub-left c = omega arith
 
-add-i : tie.Need-overflow-add-i invariant_loop decreases_loop
-add-i c = omega arith
+overflow_add-i : tie.Need-overflow_add-i invariant-loop-i decreases-loop-i
+overflow_add-i c = omega arith
 
-loop-less : tie.Need-loop-smaller invariant_loop decreases_loop
-loop-less c = omega arith
+loop-i-smaller : tie.Need-loop-i-smaller invariant-loop-i decreases-loop-i
+loop-i-smaller c = omega arith
 
-loop-again : tie.Need-loop-preserved invariant_loop decreases_loop
-loop-again c = omega arith
+loop-i-preserved : tie.Need-loop-i-preserved invariant-loop-i decreases-loop-i
+loop-i-preserved c = omega arith
 
-returns-2 : tie.Need-returns-2 invariant_loop decreases_loop
-returns-2 c = tt
+returns-then-left-eq0-2 : tie.Need-returns-then-left-eq0-2 invariant-loop-i decreases-loop-i
+returns-then-left-eq0-2 c = tt
 
-returns-3 : tie.Need-returns-3 invariant_loop decreases_loop
-returns-3 c = tt
+returns-else-left-eq0-2 : tie.Need-returns-else-left-eq0-2 invariant-loop-i decreases-loop-i
+returns-else-left-eq0-2 c = tt
 
 pub start_of_spec : {M : Type 1} → statement M
 start_of_spec =
     tie.close
     (tie.spec
-    invariant_loop
-    decreases_loop
-    loop-holds
-    returns
-    shared-slice-read-if2
-    sub-left
-    add-i
-    loop-less
-    loop-again
-    returns-2
-    returns-3)
+    invariant-loop-i
+    decreases-loop-i
+    loop-i-init
+    returns-then-left-eq0
+    bounds-s-i
+    overflow_sub-left
+    overflow_add-i
+    loop-i-smaller
+    loop-i-preserved
+    returns-then-left-eq0-2
+    returns-else-left-eq0-2)

@@ -4,43 +4,43 @@ use Rattle.io.proofs.Counting.{prefix_len_of_le}
 use Rattle.answers.proofs.fields.until.Statement.{statement}
 use Rattle.answers.proofs.fields.until.Tie as tie
 
-abbrev invariant_loop : tie.invariant_loop
-invariant_loop s mark i₀ i = i ≤ length s
+abbrev invariant-loop-i : tie.invariant-loop-i
+invariant-loop-i s mark i₀ i = i ≤ length s
 
-abbrev decreases_loop : tie.decreases_loop
-decreases_loop s mark i₀ i = length s - i
+abbrev decreases-loop-i : tie.decreases-loop-i
+decreases-loop-i s mark i₀ i = length s - i
 
-loop-holds : tie.Need-loop-init invariant_loop decreases_loop
-loop-holds c = omega arith
+loop-i-init : tie.Need-loop-i-init invariant-loop-i decreases-loop-i
+loop-i-init c = omega arith
 
-shared-slice-read-if1 : tie.Need-shared-slice-read-if1 invariant_loop decreases_loop
-shared-slice-read-if1 c = omega arith
+bounds-s-i : tie.Need-bounds-s-i invariant-loop-i decreases-loop-i
+bounds-s-i c = omega arith
 
-returns : tie.Need-returns invariant_loop decreases_loop
+returns-then-s-i : tie.Need-returns-then-s-i invariant-loop-i decreases-loop-i
+returns-then-s-i c = prefix_len_of_le _ _ (omega arith)
+
+overflow_add-i : tie.Need-overflow_add-i invariant-loop-i decreases-loop-i
+overflow_add-i c = omega arith
+
+loop-i-smaller : tie.Need-loop-i-smaller invariant-loop-i decreases-loop-i
+loop-i-smaller c = omega arith
+
+loop-i-preserved : tie.Need-loop-i-preserved invariant-loop-i decreases-loop-i
+loop-i-preserved c = omega arith
+
+returns : tie.Need-returns invariant-loop-i decreases-loop-i
 returns c = prefix_len_of_le _ _ (omega arith)
-
-add-i : tie.Need-overflow-add-i invariant_loop decreases_loop
-add-i c = omega arith
-
-loop-less : tie.Need-loop-smaller invariant_loop decreases_loop
-loop-less c = omega arith
-
-loop-again : tie.Need-loop-preserved invariant_loop decreases_loop
-loop-again c = omega arith
-
-returns-2 : tie.Need-returns-2 invariant_loop decreases_loop
-returns-2 c = prefix_len_of_le _ _ (omega arith)
 
 pub until_spec : {M : Type 1} → statement M
 until_spec =
     tie.close
     (tie.spec
-    invariant_loop
-    decreases_loop
-    loop-holds
-    shared-slice-read-if1
-    returns
-    add-i
-    loop-less
-    loop-again
-    returns-2)
+    invariant-loop-i
+    decreases-loop-i
+    loop-i-init
+    bounds-s-i
+    returns-then-s-i
+    overflow_add-i
+    loop-i-smaller
+    loop-i-preserved
+    returns)

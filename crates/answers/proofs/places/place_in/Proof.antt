@@ -3,47 +3,47 @@ use Rattle.std.proofs.Common.{◌-◌, ◌≤◌, length, arith}
 use Rattle.answers.proofs.places.place_in.Statement.{statement}
 use Rattle.answers.proofs.places.place_in.Tie as tie
 
-abbrev invariant_loop : tie.invariant_loop
-invariant_loop field place₀ i₀ place i = i ≤ length field
+abbrev invariant-loop-i : tie.invariant-loop-i
+invariant-loop-i field place₀ i₀ place i = i ≤ length field
 
-abbrev decreases_loop : tie.decreases_loop
-decreases_loop field place₀ i₀ place i = length field - i
+abbrev decreases-loop-i : tie.decreases-loop-i
+decreases-loop-i field place₀ i₀ place i = length field - i
 
-loop-holds : tie.Need-loop-init invariant_loop decreases_loop
-loop-holds c = omega arith
+loop-i-init : tie.Need-loop-i-init invariant-loop-i decreases-loop-i
+loop-i-init c = omega arith
 
-shared-slice-read-digit-of : tie.Need-shared-slice-read-digit-of invariant_loop decreases_loop
-shared-slice-read-digit-of c = omega arith
+bounds-field-i : tie.Need-bounds-field-i invariant-loop-i decreases-loop-i
+bounds-field-i c = omega arith
 
-digit-of-requires : tie.Need-digit-of-requires invariant_loop decreases_loop
-digit-of-requires c κs = tt
+digit_of-requires : tie.Need-digit_of-requires invariant-loop-i decreases-loop-i
+digit_of-requires c κs = tt
 
-longer-requires : tie.Need-longer-requires invariant_loop decreases_loop
-longer-requires c κs = tt
+longer-place-requires : tie.Need-longer-place-requires invariant-loop-i decreases-loop-i
+longer-place-requires c κs = tt
 
-add-i : tie.Need-overflow-add-i invariant_loop decreases_loop
-add-i c = omega arith
+overflow_add-i : tie.Need-overflow_add-i invariant-loop-i decreases-loop-i
+overflow_add-i c = omega arith
 
-loop-less : tie.Need-loop-smaller invariant_loop decreases_loop
-loop-less c = omega arith
+loop-i-smaller : tie.Need-loop-i-smaller invariant-loop-i decreases-loop-i
+loop-i-smaller c = omega arith
 
-loop-again : tie.Need-loop-preserved invariant_loop decreases_loop
-loop-again c = omega arith
+loop-i-preserved : tie.Need-loop-i-preserved invariant-loop-i decreases-loop-i
+loop-i-preserved c = omega arith
 
-returns : tie.Need-returns invariant_loop decreases_loop
+returns : tie.Need-returns invariant-loop-i decreases-loop-i
 returns c = tt
 
 pub place_in_spec : {M : Type 1} → statement M
 place_in_spec =
     tie.close
     (tie.spec
-    invariant_loop
-    decreases_loop
-    loop-holds
-    shared-slice-read-digit-of
-    digit-of-requires
-    longer-requires
-    add-i
-    loop-less
-    loop-again
+    invariant-loop-i
+    decreases-loop-i
+    loop-i-init
+    bounds-field-i
+    digit_of-requires
+    longer-place-requires
+    overflow_add-i
+    loop-i-smaller
+    loop-i-preserved
     returns)

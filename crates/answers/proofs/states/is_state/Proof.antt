@@ -4,55 +4,55 @@ use Rattle.state.specs.Numbers.{count}
 use Rattle.answers.proofs.states.is_state.Statement.{statement}
 use Rattle.answers.proofs.states.is_state.Tie as tie
 
-abbrev invariant_loop : tie.invariant_loop
-invariant_loop field k₀ k = Unit {0}
+abbrev invariant-loop-k : tie.invariant-loop-k
+invariant-loop-k field k₀ k = Unit {0}
 
-abbrev decreases_loop : tie.decreases_loop
-decreases_loop field k₀ k = count - k
+abbrev decreases-loop-k : tie.decreases-loop-k
+decreases-loop-k field k₀ k = count - k
 
-loop-holds : tie.Need-loop-init invariant_loop decreases_loop
-loop-holds c = tt
+loop-k-init : tie.Need-loop-k-init invariant-loop-k decreases-loop-k
+loop-k-init c = tt
 
-greatest-requires : tie.Need-greatest-requires invariant_loop decreases_loop
+greatest-requires : tie.Need-greatest-requires invariant-loop-k decreases-loop-k
 greatest-requires c κs = tt
 
-part-requires : tie.Need-part-requires invariant_loop decreases_loop
+part-requires : tie.Need-part-requires invariant-loop-k decreases-loop-k
 part-requires c κs = tt
 
-number-in-requires : tie.Need-number-in-requires invariant_loop decreases_loop
-number-in-requires c κs = tt
+number_in-requires : tie.Need-number_in-requires invariant-loop-k decreases-loop-k
+number_in-requires c κs = tt
 
-returns : tie.Need-returns invariant_loop decreases_loop
+returns-then-greatest-number_in : tie.Need-returns-then-greatest-number_in invariant-loop-k decreases-loop-k
+returns-then-greatest-number_in c = tt
+
+overflow_add-k : tie.Need-overflow_add-k invariant-loop-k decreases-loop-k
+overflow_add-k c = omega arith
+
+loop-k-smaller : tie.Need-loop-k-smaller invariant-loop-k decreases-loop-k
+loop-k-smaller c = omega arith
+
+loop-k-preserved : tie.Need-loop-k-preserved invariant-loop-k decreases-loop-k
+loop-k-preserved c = tt
+
+has_part-requires : tie.Need-has_part-requires invariant-loop-k decreases-loop-k
+has_part-requires c κs = tt
+
+returns : tie.Need-returns invariant-loop-k decreases-loop-k
 returns c = tt
-
-add-k : tie.Need-overflow-add-k invariant_loop decreases_loop
-add-k c = omega arith
-
-loop-less : tie.Need-loop-smaller invariant_loop decreases_loop
-loop-less c = omega arith
-
-loop-again : tie.Need-loop-preserved invariant_loop decreases_loop
-loop-again c = tt
-
-has-part-requires : tie.Need-has-part-requires invariant_loop decreases_loop
-has-part-requires c κs = tt
-
-returns-2 : tie.Need-returns-2 invariant_loop decreases_loop
-returns-2 c = tt
 
 pub is_state_spec : {M : Type 1} → statement M
 is_state_spec =
     tie.close
     (tie.spec
-    invariant_loop
-    decreases_loop
-    loop-holds
+    invariant-loop-k
+    decreases-loop-k
+    loop-k-init
     greatest-requires
     part-requires
-    number-in-requires
-    returns
-    add-k
-    loop-less
-    loop-again
-    has-part-requires
-    returns-2)
+    number_in-requires
+    returns-then-greatest-number_in
+    overflow_add-k
+    loop-k-smaller
+    loop-k-preserved
+    has_part-requires
+    returns)
