@@ -3,43 +3,43 @@ use Rattle.std.proofs.Common.{◌-◌, ◌≤◌, length, arith}
 use Rattle.text.proofs.Line.digits.Statement.{statement}
 use Rattle.text.proofs.Line.digits.Tie as tie
 
-abbrev invariant_loop : tie.invariant_loop
-invariant_loop octets line₀ i₀ line i = i ≤ length octets
+abbrev invariant-loop-i : tie.invariant-loop-i
+invariant-loop-i octets line₀ i₀ line i = i ≤ length octets
 
-abbrev decreases_loop : tie.decreases_loop
-decreases_loop octets line₀ i₀ line i = length octets - i
+abbrev decreases-loop-i : tie.decreases-loop-i
+decreases-loop-i octets line₀ i₀ line i = length octets - i
 
-loop-holds : tie.Need-loop-init invariant_loop decreases_loop
-loop-holds c = omega arith
+loop-i-init : tie.Need-loop-i-init invariant-loop-i decreases-loop-i
+loop-i-init c = omega arith
 
-shared-slice-read-two-digits : tie.Need-shared-slice-read-two-digits invariant_loop decreases_loop
-shared-slice-read-two-digits c = omega arith
+bounds-octets-i : tie.Need-bounds-octets-i invariant-loop-i decreases-loop-i
+bounds-octets-i c = omega arith
 
-two-digits-requires : tie.Need-two-digits-requires invariant_loop decreases_loop
-two-digits-requires c κs = tt
+two_digits-line-requires : tie.Need-two_digits-line-requires invariant-loop-i decreases-loop-i
+two_digits-line-requires c κs = tt
 
-add-i : tie.Need-overflow-add-i invariant_loop decreases_loop
-add-i c = omega arith
+overflow_add-i : tie.Need-overflow_add-i invariant-loop-i decreases-loop-i
+overflow_add-i c = omega arith
 
-loop-less : tie.Need-loop-smaller invariant_loop decreases_loop
-loop-less c = omega arith
+loop-i-smaller : tie.Need-loop-i-smaller invariant-loop-i decreases-loop-i
+loop-i-smaller c = omega arith
 
-loop-again : tie.Need-loop-preserved invariant_loop decreases_loop
-loop-again c = omega arith
+loop-i-preserved : tie.Need-loop-i-preserved invariant-loop-i decreases-loop-i
+loop-i-preserved c = omega arith
 
-returns : tie.Need-returns invariant_loop decreases_loop
+returns : tie.Need-returns invariant-loop-i decreases-loop-i
 returns c = tt
 
 pub digits_spec : {M : Type 1} → statement M
 digits_spec =
     tie.close
     (tie.spec
-    invariant_loop
-    decreases_loop
-    loop-holds
-    shared-slice-read-two-digits
-    two-digits-requires
-    add-i
-    loop-less
-    loop-again
+    invariant-loop-i
+    decreases-loop-i
+    loop-i-init
+    bounds-octets-i
+    two_digits-line-requires
+    overflow_add-i
+    loop-i-smaller
+    loop-i-preserved
     returns)

@@ -3,56 +3,56 @@ use Rattle.std.proofs.Common.{◌-◌, ◌≤◌, length, arith}
 use Rattle.text.proofs.Line.row.Statement.{statement}
 use Rattle.text.proofs.Line.row.Tie as tie
 
-abbrev invariant_loop : tie.invariant_loop
-invariant_loop number rows wanted line₀ row₀ i₀ line row i = i ≤ length rows
+abbrev invariant-loop-i : tie.invariant-loop-i
+invariant-loop-i number rows wanted line₀ row₀ i₀ line row i = i ≤ length rows
 
-abbrev decreases_loop : tie.decreases_loop
-decreases_loop number rows wanted line₀ row₀ i₀ line row i = length rows - i
+abbrev decreases-loop-i : tie.decreases-loop-i
+decreases-loop-i number rows wanted line₀ row₀ i₀ line row i = length rows - i
 
-loop-holds : tie.Need-loop-init invariant_loop decreases_loop
-loop-holds c = omega arith
+loop-i-init : tie.Need-loop-i-init invariant-loop-i decreases-loop-i
+loop-i-init c = omega arith
 
-shared-slice-read-octet-if : tie.Need-shared-slice-read-octet-if invariant_loop decreases_loop
-shared-slice-read-octet-if c = omega arith
+bounds-rows-i : tie.Need-bounds-rows-i invariant-loop-i decreases-loop-i
+bounds-rows-i c = omega arith
 
-octet-if-requires : tie.Need-octet-if-requires invariant_loop decreases_loop
-octet-if-requires c κs = tt
+octet_if-line-requires : tie.Need-octet_if-line-requires invariant-loop-i decreases-loop-i
+octet_if-line-requires c κs = tt
 
 shared_slice_read_wrapping_add_usize :
-    tie.Need-shared-slice-read-wrapping-add-usize invariant_loop decreases_loop
+    tie.Need-bounds-rows-i-in-loop-i invariant-loop-i decreases-loop-i
 shared_slice_read_wrapping_add_usize c = omega arith
 
-cast-wrapping-add-usize : tie.Need-overflow-cast-wrapping-add-usize invariant_loop decreases_loop
-cast-wrapping-add-usize c = omega arith
+overflow_cast-rows : tie.Need-overflow_cast-rows invariant-loop-i decreases-loop-i
+overflow_cast-rows c = omega arith
 
-wrapping-add-usize-requires : tie.Need-wrapping-add-usize-requires invariant_loop decreases_loop
-wrapping-add-usize-requires c κs = tt
+wrapping_add_usize-row-requires : tie.Need-wrapping_add_usize-row-requires invariant-loop-i decreases-loop-i
+wrapping_add_usize-row-requires c κs = tt
 
-add-i : tie.Need-overflow-add-i invariant_loop decreases_loop
-add-i c = omega arith
+overflow_add-i : tie.Need-overflow_add-i invariant-loop-i decreases-loop-i
+overflow_add-i c = omega arith
 
-loop-less : tie.Need-loop-smaller invariant_loop decreases_loop
-loop-less c = omega arith
+loop-i-smaller : tie.Need-loop-i-smaller invariant-loop-i decreases-loop-i
+loop-i-smaller c = omega arith
 
-loop-again : tie.Need-loop-preserved invariant_loop decreases_loop
-loop-again c = omega arith
+loop-i-preserved : tie.Need-loop-i-preserved invariant-loop-i decreases-loop-i
+loop-i-preserved c = omega arith
 
-returns : tie.Need-returns invariant_loop decreases_loop
+returns : tie.Need-returns invariant-loop-i decreases-loop-i
 returns c = tt
 
 pub row_spec : {M : Type 1} → statement M
 row_spec =
     tie.close
     (tie.spec
-    invariant_loop
-    decreases_loop
-    loop-holds
-    shared-slice-read-octet-if
-    octet-if-requires
+    invariant-loop-i
+    decreases-loop-i
+    loop-i-init
+    bounds-rows-i
+    octet_if-line-requires
     shared_slice_read_wrapping_add_usize
-    cast-wrapping-add-usize
-    wrapping-add-usize-requires
-    add-i
-    loop-less
-    loop-again
+    overflow_cast-rows
+    wrapping_add_usize-row-requires
+    overflow_add-i
+    loop-i-smaller
+    loop-i-preserved
     returns)

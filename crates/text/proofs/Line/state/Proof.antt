@@ -4,18 +4,18 @@ use Rattle.state.specs.Numbers.{count}
 use Rattle.text.proofs.Line.state.Statement.{statement}
 use Rattle.text.proofs.Line.state.Tie as tie
 
-abbrev invariant_loop : tie.invariant_loop
-invariant_loop first mark values line₀ i₀ line i = i ≤ count
+abbrev invariant-loop-i : tie.invariant-loop-i
+invariant-loop-i first mark values line₀ i₀ line i = i ≤ count
 
-abbrev decreases_loop : tie.decreases_loop
-decreases_loop first mark values line₀ i₀ line i = count - i
+abbrev decreases-loop-i : tie.decreases-loop-i
+decreases-loop-i first mark values line₀ i₀ line i = count - i
 
 pub state_spec : {M : Type 1} → statement M
 state_spec =
     tie.close
     (tie.spec
-    invariant_loop
-    decreases_loop
+    invariant-loop-i
+    decreases-loop-i
     (search rules)
     (search rules)
     (search rules)

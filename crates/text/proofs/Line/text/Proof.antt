@@ -3,51 +3,51 @@ use Rattle.std.proofs.Common.{◌-◌, ◌≤◌, length, arith}
 use Rattle.text.proofs.Line.text.Statement.{statement}
 use Rattle.text.proofs.Line.text.Tie as tie
 
-abbrev invariant_loop : tie.invariant_loop
-invariant_loop words octets₀ count₀ i₀ octets count i = i ≤ length words
+abbrev invariant-loop-i : tie.invariant-loop-i
+invariant-loop-i words octets₀ count₀ i₀ octets count i = i ≤ length words
 
-abbrev decreases_loop : tie.decreases_loop
-decreases_loop words octets₀ count₀ i₀ octets count i = length words - i
+abbrev decreases-loop-i : tie.decreases-loop-i
+decreases-loop-i words octets₀ count₀ i₀ octets count i = length words - i
 
-loop-holds : tie.Need-loop-init invariant_loop decreases_loop
-loop-holds c = omega arith
+loop-i-init : tie.Need-loop-i-init invariant-loop-i decreases-loop-i
+loop-i-init c = omega arith
 
-returns : tie.Need-returns invariant_loop decreases_loop
+returns-then-count-ge-ROOM : tie.Need-returns-then-count-ge-ROOM invariant-loop-i decreases-loop-i
+returns-then-count-ge-ROOM c = tt
+
+bounds-words-i : tie.Need-bounds-words-i invariant-loop-i decreases-loop-i
+bounds-words-i c = omega arith
+
+bounds-octets-count : tie.Need-bounds-octets-count invariant-loop-i decreases-loop-i
+bounds-octets-count c = omega arith
+
+overflow_add-count : tie.Need-overflow_add-count invariant-loop-i decreases-loop-i
+overflow_add-count c = omega arith
+
+overflow_add-i : tie.Need-overflow_add-i invariant-loop-i decreases-loop-i
+overflow_add-i c = omega arith
+
+loop-i-smaller : tie.Need-loop-i-smaller invariant-loop-i decreases-loop-i
+loop-i-smaller c = omega arith
+
+loop-i-preserved : tie.Need-loop-i-preserved invariant-loop-i decreases-loop-i
+loop-i-preserved c = omega arith
+
+returns : tie.Need-returns invariant-loop-i decreases-loop-i
 returns c = tt
-
-shared-slice-read-octets : tie.Need-shared-slice-read-octets invariant_loop decreases_loop
-shared-slice-read-octets c = omega arith
-
-array-write-octets : tie.Need-array-write-octets invariant_loop decreases_loop
-array-write-octets c = omega arith
-
-add-count : tie.Need-overflow-add-count invariant_loop decreases_loop
-add-count c = omega arith
-
-add-i : tie.Need-overflow-add-i invariant_loop decreases_loop
-add-i c = omega arith
-
-loop-less : tie.Need-loop-smaller invariant_loop decreases_loop
-loop-less c = omega arith
-
-loop-again : tie.Need-loop-preserved invariant_loop decreases_loop
-loop-again c = omega arith
-
-returns-2 : tie.Need-returns-2 invariant_loop decreases_loop
-returns-2 c = tt
 
 pub text_spec : {M : Type 1} → statement M
 text_spec =
     tie.close
     (tie.spec
-    invariant_loop
-    decreases_loop
-    loop-holds
-    returns
-    shared-slice-read-octets
-    array-write-octets
-    add-count
-    add-i
-    loop-less
-    loop-again
-    returns-2)
+    invariant-loop-i
+    decreases-loop-i
+    loop-i-init
+    returns-then-count-ge-ROOM
+    bounds-words-i
+    bounds-octets-count
+    overflow_add-count
+    overflow_add-i
+    loop-i-smaller
+    loop-i-preserved
+    returns)

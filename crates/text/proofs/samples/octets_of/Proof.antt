@@ -4,91 +4,91 @@ use Rattle.io.proofs.Counting.{prefix_len_of_le}
 use Rattle.text.proofs.samples.octets_of.Statement.{statement}
 use Rattle.text.proofs.samples.octets_of.Tie as tie
 
-abbrev invariant_loop : tie.invariant_loop
-invariant_loop samples order into₀ n i₀ into i = (i ≤ n) × (length into ≡ length into₀)
+abbrev invariant-loop-i : tie.invariant-loop-i
+invariant-loop-i samples order into₀ n i₀ into i = (i ≤ n) × (length into ≡ length into₀)
 
-abbrev decreases_loop : tie.decreases_loop
-decreases_loop samples order into₀ n i₀ into i = n - i
+abbrev decreases-loop-i : tie.decreases-loop-i
+decreases-loop-i samples order into₀ n i₀ into i = n - i
 
-least-requires : tie.Need-least-requires invariant_loop decreases_loop
-least-requires c κs = tt
+least-n-requires : tie.Need-least-n-requires invariant-loop-i decreases-loop-i
+least-n-requires c κs = tt
 
-loop-holds : tie.Need-loop-init invariant_loop decreases_loop
-loop-holds c = omega arith
+loop-i-init : tie.Need-loop-i-init invariant-loop-i decreases-loop-i
+loop-i-init c = omega arith
 
-mul-word-of : tie.Need-overflow-mul-word-of invariant_loop decreases_loop
-mul-word-of c = omega arith
+offset_bounds-samples-i : tie.Need-offset_bounds-samples-i invariant-loop-i decreases-loop-i
+offset_bounds-samples-i c = omega arith
 
-shared-slice-copy-out-word-of : tie.Need-shared-slice-copy-out-word-of invariant_loop decreases_loop
-shared-slice-copy-out-word-of c = omega arith
+bounds-samples-i : tie.Need-bounds-samples-i invariant-loop-i decreases-loop-i
+bounds-samples-i c = omega arith
 
-word-of-requires : tie.Need-word-of-requires invariant_loop decreases_loop
-word-of-requires c κs = tt
+word_of-requires : tie.Need-word_of-requires invariant-loop-i decreases-loop-i
+word_of-requires c κs = tt
 
-ordered-requires : tie.Need-ordered-requires invariant_loop decreases_loop
-ordered-requires c κs = tt
+ordered-word-requires : tie.Need-ordered-word-requires invariant-loop-i decreases-loop-i
+ordered-word-requires c κs = tt
 
-cast-into : tie.Need-overflow-cast-into invariant_loop decreases_loop
-cast-into c = omega arith
+overflow_cast-into : tie.Need-overflow_cast-into invariant-loop-i decreases-loop-i
+overflow_cast-into c = omega arith
 
-mul-into : tie.Need-overflow-mul-into invariant_loop decreases_loop
-mul-into c = omega arith
+overflow_mul-into : tie.Need-overflow_mul-into invariant-loop-i decreases-loop-i
+overflow_mul-into c = omega arith
 
-slice-write-into : tie.Need-slice-write-into invariant_loop decreases_loop
-slice-write-into c = omega arith
+bounds-into-i : tie.Need-bounds-into-i invariant-loop-i decreases-loop-i
+bounds-into-i c = omega arith
 
-cast-into-2 : tie.Need-overflow-cast-into-2 invariant_loop decreases_loop
-cast-into-2 c = omega arith
+overflow_cast-into-in-loop-i : tie.Need-overflow_cast-into-in-loop-i invariant-loop-i decreases-loop-i
+overflow_cast-into-in-loop-i c = omega arith
 
-mul-into-2 : tie.Need-overflow-mul-into-2 invariant_loop decreases_loop
-mul-into-2 c = omega arith
+overflow_mul-into-in-loop-i : tie.Need-overflow_mul-into-in-loop-i invariant-loop-i decreases-loop-i
+overflow_mul-into-in-loop-i c = omega arith
 
-add-into : tie.Need-overflow-add-into invariant_loop decreases_loop
-add-into c = omega arith
+overflow_add-into : tie.Need-overflow_add-into invariant-loop-i decreases-loop-i
+overflow_add-into c = omega arith
 
-slice-write-into-2 : tie.Need-slice-write-into-2 invariant_loop decreases_loop
-slice-write-into-2 c = simp length-set (omega arith)
+bounds-into-i-in-loop-i : tie.Need-bounds-into-i-in-loop-i invariant-loop-i decreases-loop-i
+bounds-into-i-in-loop-i c = simp length-set (omega arith)
 
-add-i : tie.Need-overflow-add-i invariant_loop decreases_loop
-add-i c = omega arith
+overflow_add-i : tie.Need-overflow_add-i invariant-loop-i decreases-loop-i
+overflow_add-i c = omega arith
 
-loop-less : tie.Need-loop-smaller invariant_loop decreases_loop
-loop-less c = omega arith
+loop-i-smaller : tie.Need-loop-i-smaller invariant-loop-i decreases-loop-i
+loop-i-smaller c = omega arith
 
-loop-again : tie.Need-loop-preserved invariant_loop decreases_loop
-loop-again c = simp length-set (omega arith)
+loop-i-preserved : tie.Need-loop-i-preserved invariant-loop-i decreases-loop-i
+loop-i-preserved c = simp length-set (omega arith)
 
-mul-result : tie.Need-overflow-mul-result invariant_loop decreases_loop
-mul-result c = omega arith
+overflow_mul-result : tie.Need-overflow_mul-result invariant-loop-i decreases-loop-i
+overflow_mul-result c = omega arith
 
-same_length : tie.Need-same-length invariant_loop decreases_loop
-same_length c = omega arith
+shape_of-into : tie.Need-shape_of-into invariant-loop-i decreases-loop-i
+shape_of-into c = omega arith
 
-returns : tie.Need-returns invariant_loop decreases_loop
+returns : tie.Need-returns invariant-loop-i decreases-loop-i
 returns c = prefix_len_of_le _ _ (omega arith)
 
 pub octets_of_spec : {M : Type 1} → statement M
 octets_of_spec =
     tie.close
     (tie.spec
-    invariant_loop
-    decreases_loop
-    least-requires
-    loop-holds
-    mul-word-of
-    shared-slice-copy-out-word-of
-    word-of-requires
-    ordered-requires
-    cast-into
-    mul-into
-    slice-write-into
-    cast-into-2
-    mul-into-2
-    add-into
-    slice-write-into-2
-    add-i
-    loop-less
-    loop-again
-    mul-result
-    same_length
+    invariant-loop-i
+    decreases-loop-i
+    least-n-requires
+    loop-i-init
+    offset_bounds-samples-i
+    bounds-samples-i
+    word_of-requires
+    ordered-word-requires
+    overflow_cast-into
+    overflow_mul-into
+    bounds-into-i
+    overflow_cast-into-in-loop-i
+    overflow_mul-into-in-loop-i
+    overflow_add-into
+    bounds-into-i-in-loop-i
+    overflow_add-i
+    loop-i-smaller
+    loop-i-preserved
+    overflow_mul-result
+    shape_of-into
     returns)

@@ -3,83 +3,83 @@ use Rattle.std.proofs.Common.{◌≡◌, ◌-◌, ◌≤◌, length, arith, leng
 use Rattle.text.proofs.samples.samples_in.Statement.{statement}
 use Rattle.text.proofs.samples.samples_in.Tie as tie
 
-abbrev invariant_loop : tie.invariant_loop
-invariant_loop octets order into₀ n i₀ into i = (i ≤ n) × (length into ≡ length into₀)
+abbrev invariant-loop-i : tie.invariant-loop-i
+invariant-loop-i octets order into₀ n i₀ into i = (i ≤ n) × (length into ≡ length into₀)
 
-abbrev decreases_loop : tie.decreases_loop
-decreases_loop octets order into₀ n i₀ into i = n - i
+abbrev decreases-loop-i : tie.decreases-loop-i
+decreases-loop-i octets order into₀ n i₀ into i = n - i
 
-least-requires : tie.Need-least-requires invariant_loop decreases_loop
-least-requires c κs = tt
+least-n-requires : tie.Need-least-n-requires invariant-loop-i decreases-loop-i
+least-n-requires c κs = tt
 
-loop-holds : tie.Need-loop-init invariant_loop decreases_loop
-loop-holds c = omega arith
+loop-i-init : tie.Need-loop-i-init invariant-loop-i decreases-loop-i
+loop-i-init c = omega arith
 
-mul-joined : tie.Need-overflow-mul-joined invariant_loop decreases_loop
-mul-joined c = omega arith
+overflow_mul-i : tie.Need-overflow_mul-i invariant-loop-i decreases-loop-i
+overflow_mul-i c = omega arith
 
-shared-slice-read-joined : tie.Need-shared-slice-read-joined invariant_loop decreases_loop
-shared-slice-read-joined c = omega arith
+bounds-octets-i : tie.Need-bounds-octets-i invariant-loop-i decreases-loop-i
+bounds-octets-i c = omega arith
 
-mul-joined-2 : tie.Need-overflow-mul-joined-2 invariant_loop decreases_loop
-mul-joined-2 c = omega arith
+overflow_mul-i-in-loop-i : tie.Need-overflow_mul-i-in-loop-i invariant-loop-i decreases-loop-i
+overflow_mul-i-in-loop-i c = omega arith
 
-add-joined : tie.Need-overflow-add-joined invariant_loop decreases_loop
-add-joined c = omega arith
+overflow_add-i : tie.Need-overflow_add-i invariant-loop-i decreases-loop-i
+overflow_add-i c = omega arith
 
-shared-slice-read-joined-2 : tie.Need-shared-slice-read-joined-2 invariant_loop decreases_loop
-shared-slice-read-joined-2 c = omega arith
+bounds-octets-i-in-loop-i : tie.Need-bounds-octets-i-in-loop-i invariant-loop-i decreases-loop-i
+bounds-octets-i-in-loop-i c = omega arith
 
-joined-requires : tie.Need-joined-requires invariant_loop decreases_loop
+joined-requires : tie.Need-joined-requires invariant-loop-i decreases-loop-i
 joined-requires c κs = tt
 
-ordered-requires : tie.Need-ordered-requires invariant_loop decreases_loop
+ordered-requires : tie.Need-ordered-requires invariant-loop-i decreases-loop-i
 ordered-requires c κs = tt
 
-read-signed-requires : tie.Need-read-signed-requires invariant_loop decreases_loop
-read-signed-requires c κs = tt
+read_signed-requires : tie.Need-read_signed-requires invariant-loop-i decreases-loop-i
+read_signed-requires c κs = tt
 
-mul-t20 : tie.Need-overflow-mul-t20 invariant_loop decreases_loop
-mul-t20 c = omega arith
+offset_bounds-into-i : tie.Need-offset_bounds-into-i invariant-loop-i decreases-loop-i
+offset_bounds-into-i c = omega arith
 
-slice-set-from-into : tie.Need-slice-set-from-into invariant_loop decreases_loop
-slice-set-from-into c = omega arith
+bounds-into-i : tie.Need-bounds-into-i invariant-loop-i decreases-loop-i
+bounds-into-i c = omega arith
 
-add-i : tie.Need-overflow-add-i invariant_loop decreases_loop
-add-i c = omega arith
+overflow_add-i-in-loop-i : tie.Need-overflow_add-i-in-loop-i invariant-loop-i decreases-loop-i
+overflow_add-i-in-loop-i c = omega arith
 
-loop-less : tie.Need-loop-smaller invariant_loop decreases_loop
-loop-less c = omega arith
+loop-i-smaller : tie.Need-loop-i-smaller invariant-loop-i decreases-loop-i
+loop-i-smaller c = omega arith
 
-loop-again : tie.Need-loop-preserved invariant_loop decreases_loop
-loop-again c = simp length-set (omega arith)
+loop-i-preserved : tie.Need-loop-i-preserved invariant-loop-i decreases-loop-i
+loop-i-preserved c = simp length-set (omega arith)
 
-same_length : tie.Need-same-length invariant_loop decreases_loop
-same_length c = omega arith
+shape_of-into : tie.Need-shape_of-into invariant-loop-i decreases-loop-i
+shape_of-into c = omega arith
 
-returns : tie.Need-returns invariant_loop decreases_loop
+returns : tie.Need-returns invariant-loop-i decreases-loop-i
 returns c = simp length-take (omega arith)
 
 pub samples_in_spec : {M : Type 1} → statement M
 samples_in_spec =
     tie.close
     (tie.spec
-    invariant_loop
-    decreases_loop
-    least-requires
-    loop-holds
-    mul-joined
-    shared-slice-read-joined
-    mul-joined-2
-    add-joined
-    shared-slice-read-joined-2
+    invariant-loop-i
+    decreases-loop-i
+    least-n-requires
+    loop-i-init
+    overflow_mul-i
+    bounds-octets-i
+    overflow_mul-i-in-loop-i
+    overflow_add-i
+    bounds-octets-i-in-loop-i
     joined-requires
     ordered-requires
-    read-signed-requires
-    mul-t20
-    slice-set-from-into
-    add-i
-    loop-less
-    loop-again
-    same_length
+    read_signed-requires
+    offset_bounds-into-i
+    bounds-into-i
+    overflow_add-i-in-loop-i
+    loop-i-smaller
+    loop-i-preserved
+    shape_of-into
     returns)

@@ -6,40 +6,40 @@ use Rattle.text.proofs.Signs.{Below, AtLeast, below, at_least}
 use Rattle.text.proofs.samples.word_of.Statement.{statement}
 use Rattle.text.proofs.samples.word_of.Tie as tie
 
-negative : (c : tie.Then1) → Below c.before.args.sample
+negative : (c : tie.Then-sample-lt0) → Below c.before.args.sample
 negative c =
     let s = c.before in
-    below s.args.sample s.ranges.sample (rw (same s.args.sample s.ranges.sample) at c.if1.true)
+    below s.args.sample s.ranges.sample (rw (same s.args.sample s.ranges.sample) at c.if-sample-lt0.true)
 
-positive : (c : tie.Else1) → AtLeast c.before.args.sample
+positive : (c : tie.Else-sample-lt0) → AtLeast c.before.args.sample
 positive c =
     let s = c.before in
-    at_least s.args.sample s.ranges.sample (rw (same s.args.sample s.ranges.sample) at c.if1.false)
+    at_least s.args.sample s.ranges.sample (rw (same s.args.sample s.ranges.sample) at c.if-sample-lt0.false)
 
-sub-result : tie.Need-overflow-sub-result
-sub-result c =
+overflow_sub-result : tie.Need-overflow_sub-result
+overflow_sub-result c =
     let s = c.before in
     let b = negative c in
     rw (same s.args.sample s.ranges.sample, b.distance) (record { sfits = b.small })
 
-cast-result : tie.Need-overflow-cast-result
-cast-result c =
+overflow_cast-result : tie.Need-overflow_cast-result
+overflow_cast-result c =
     let s = c.before in
     let b = negative c in
     rw (same s.args.sample s.ranges.sample, b.distance, to_z_pos w16 b.n b.small) (tt, record { fits = omega (arith, b.small) })
 
-sub-result-2 : tie.Need-overflow-sub-result-2
-sub-result-2 c =
+overflow_sub-result-then-sample-lt0 : tie.Need-overflow_sub-result-then-sample-lt0
+overflow_sub-result-then-sample-lt0 c =
     let s = c.before in
     let b = negative c in
     rw (same s.args.sample s.ranges.sample, b.distance, to_z_pos w16 b.n b.small) (omega (arith, b.small))
 
-cast-result-2 : tie.Need-overflow-cast-result-2
-cast-result-2 c =
+overflow_cast-result-2 : tie.Need-overflow_cast-result-2
+overflow_cast-result-2 c =
     let s = c.before in
     let b = positive c in
     rw (same s.args.sample s.ranges.sample, b.is) (tt, record { fits = omega (arith, b.small) })
 
 pub word_of_spec : {M : Type 1} → statement M
 word_of_spec =
-    tie.close (tie.spec sub-result cast-result sub-result-2 (search rules) cast-result-2 (search rules))
+    tie.close (tie.spec overflow_sub-result overflow_cast-result overflow_sub-result-then-sample-lt0 (search rules) overflow_cast-result-2 (search rules))
