@@ -42,8 +42,8 @@ pub fn usual() -> Coding {
     }
 }
 
-pub fn read_law(program: Program, at: usize) -> Coding {
-    let law = law_at(program, at);
+pub fn read_law(rt: &HostRuntime, program: Program, at: usize) -> Coding {
+    let law = law_at(rt, program, at);
     Coding {
         good: law.good,
         at: after(at),
@@ -52,25 +52,25 @@ pub fn read_law(program: Program, at: usize) -> Coding {
     }
 }
 
-pub fn read_pair(program: Program, at: usize) -> Coding {
-    let coding = read_law(program, at);
+pub fn read_pair(rt: &HostRuntime, program: Program, at: usize) -> Coding {
+    let coding = read_law(rt, program, at);
     if !coding.good {
         return usual();
     }
     let first = coding.at;
-    let width = number(program, first, b"WIDTH");
+    let width = number(rt, program, first, b"WIDTH");
     if !width.good {
         return usual();
     }
     let second = after(first);
-    let core = number(program, second, b"CORE");
+    let core = number(rt, program, second, b"CORE");
     if !core.good {
         return usual();
     }
     let x = octet_of(width.value);
     let y = octet_of(core.value);
     if !is_pair(x, y) {
-        wrong_pair(program, first, second);
+        wrong_pair(rt, program, first, second);
         return usual();
     }
     Coding {
@@ -82,23 +82,23 @@ pub fn read_pair(program: Program, at: usize) -> Coding {
 }
 
 // With SAMPLES and EDITION, where numbers are next
-pub fn read_encode(at: usize) -> Coding {
-    let coding = read_pair(Program::Parchfennel, at);
+pub fn read_encode(rt: &HostRuntime, at: usize) -> Coding {
+    let coding = read_pair(rt, Program::Parchfennel, at);
     if !coding.good {
         return coding;
     }
-    with_samples(coding)
+    with_samples(rt, coding)
 }
 
 // The count is told before the edition behind it is looked at, and both editions take the same counts.
-fn with_samples(coding: Coding) -> Coding {
+fn with_samples(rt: &HostRuntime, coding: Coding) -> Coding {
     let at = coding.at;
-    let count = number_at(at);
+    let count = number_at(rt, at);
     if !count.good {
         return coding;
     }
     if !is_count(coding.edition, count.value) {
-        wrong(Program::Parchfennel, b"no count of samples: ", at);
+        wrong(rt, Program::Parchfennel, b"no count of samples: ", at);
         return usual();
     }
     let counted = Coding {
@@ -106,18 +106,18 @@ fn with_samples(coding: Coding) -> Coding {
         samples: count.value,
         ..coding
     };
-    with_edition(counted)
+    with_edition(rt, counted)
 }
 
-fn with_edition(coding: Coding) -> Coding {
+fn with_edition(rt: &HostRuntime, coding: Coding) -> Coding {
     let at = coding.at;
-    let asked = number_at(at);
+    let asked = number_at(rt, at);
     if !asked.good {
         return coding;
     }
     let edition = octet_of(asked.value);
     if !is_edition(edition) {
-        wrong(Program::Parchfennel, b"no edition: ", at);
+        wrong(rt, Program::Parchfennel, b"no edition: ", at);
         return usual();
     }
     Coding {

@@ -26,31 +26,31 @@ pub fn uncut() -> Cut {
     }
 }
 
-pub fn read_cut(at: usize) -> Cut {
-    if is_word(at, b"-most") {
-        let cut = read_widths(after(at));
+pub fn read_cut(rt: &HostRuntime, at: usize) -> Cut {
+    if is_word(rt, at, b"-most") {
+        let cut = read_widths(rt, after(at));
         return Cut { most: true, ..cut };
     }
-    read_widths(at)
+    read_widths(rt, at)
 }
 
-fn read_widths(at: usize) -> Cut {
-    if is_word(at, b"-list") {
+fn read_widths(rt: &HostRuntime, at: usize) -> Cut {
+    if is_word(rt, at, b"-list") {
         let list = after(at);
         return Cut {
-            good: is_file(Program::Parchfennel, list),
+            good: is_file(rt, Program::Parchfennel, list),
             at: after(list),
             list,
             ..uncut()
         };
     }
-    let asked = number(Program::Parchfennel, at, b"WIDTH");
+    let asked = number(rt, Program::Parchfennel, at, b"WIDTH");
     if !asked.good {
         return uncut();
     }
     let width = octet_of(asked.value);
     if !is_width(width) {
-        wrong(Program::Parchfennel, b"no width: ", at);
+        wrong(rt, Program::Parchfennel, b"no width: ", at);
         return uncut();
     }
     Cut {

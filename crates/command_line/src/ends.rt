@@ -12,63 +12,63 @@ pub struct Ends {
 }
 
 // Each where it is there, and nothing behind them
-pub fn read_ends(at: usize) -> Ends {
+pub fn read_ends(rt: &HostRuntime, at: usize) -> Ends {
     let second = after(at);
     Ends {
-        good: are_ends(at, second),
-        input: named(at),
-        output: named(second),
+        good: are_ends(rt, at, second),
+        input: named(rt, at),
+        output: named(rt, second),
     }
 }
 
-fn are_ends(first: usize, second: usize) -> bool {
-    if !is_end(first) {
+fn are_ends(rt: &HostRuntime, first: usize, second: usize) -> bool {
+    if !is_end(rt, first) {
         return false;
     }
-    if !is_end(second) {
+    if !is_end(rt, second) {
         return false;
     }
-    is_behind(Program::Parchfennel, after(second))
+    is_behind(rt, Program::Parchfennel, after(second))
 }
 
-fn is_end(at: usize) -> bool {
-    if is_standard(at) {
+fn is_end(rt: &HostRuntime, at: usize) -> bool {
+    if is_standard(rt, at) {
         return true;
     }
-    is_file(Program::Parchfennel, at)
+    is_file(rt, Program::Parchfennel, at)
 }
 
-fn named(at: usize) -> usize {
-    if is_standard(at) {
+fn named(rt: &HostRuntime, at: usize) -> usize {
+    if is_standard(rt, at) {
         return 0;
     }
     at
 }
 
-fn is_standard(at: usize) -> bool {
-    !is_there(at) | is_word(at, b"-")
+fn is_standard(rt: &HostRuntime, at: usize) -> bool {
+    !is_there(rt, at) | is_word(rt, at, b"-")
 }
 
 // What is written, OUT and the states, is no other word's file
-pub fn are_apart(ends: Ends, list: usize, states: usize) -> bool {
+pub fn are_apart(rt: &HostRuntime, ends: Ends, list: usize, states: usize) -> bool {
     if !ends.good {
         return false;
     }
-    if is_one(ends.output, ends.input) | is_one(ends.output, list) {
-        twice(ends.output);
+    if is_one(rt, ends.output, ends.input) | is_one(rt, ends.output, list) {
+        twice(rt, ends.output);
         return false;
     }
-    if is_one(states, ends.input) | is_one(states, ends.output) {
-        twice(states);
+    if is_one(rt, states, ends.input) | is_one(rt, states, ends.output) {
+        twice(rt, states);
         return false;
     }
     true
 }
 
-fn is_one(i: usize, j: usize) -> bool {
-    (i != 0) & (j != 0) & are_same(i, j)
+fn is_one(rt: &HostRuntime, i: usize, j: usize) -> bool {
+    (i != 0) & (j != 0) & are_same(rt, i, j)
 }
 
-fn twice(i: usize) {
-    wrong(Program::Parchfennel, b"two words for one file: ", i);
+fn twice(rt: &HostRuntime, i: usize) {
+    wrong(rt, Program::Parchfennel, b"two words for one file: ", i);
 }

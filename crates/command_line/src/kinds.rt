@@ -3,14 +3,15 @@ use crate::program::Program;
 use crate::words::{Number, is_name, is_there, number_at};
 use crate::wrong::{missing, unknown, wrong};
 
-pub fn is_file(program: Program, at: usize) -> bool {
-    if !is_there(at) {
+pub fn is_file(rt: &HostRuntime, program: Program, at: usize) -> bool {
+    if !is_there(rt, at) {
         missing(program, b"FILE");
         return false;
     }
-    let good = is_name(at);
+    let good = is_name(rt, at);
     if !good {
         wrong(
+            rt,
             program,
             b"not a file name (one called so is written with ./ before it): ",
             at,
@@ -19,22 +20,22 @@ pub fn is_file(program: Program, at: usize) -> bool {
     good
 }
 
-pub fn number(program: Program, at: usize, name: &[u8]) -> Number {
-    let found = number_at(at);
-    if !is_there(at) {
+pub fn number(rt: &HostRuntime, program: Program, at: usize, name: &[u8]) -> Number {
+    let found = number_at(rt, at);
+    if !is_there(rt, at) {
         missing(program, name);
         return found;
     }
     if !found.good {
-        wrong(program, b"not a number: ", at);
+        wrong(rt, program, b"not a number: ", at);
     }
     found
 }
 
 // Whether the words end before it
-pub fn is_behind(program: Program, at: usize) -> bool {
-    if is_there(at) {
-        unknown(program, at);
+pub fn is_behind(rt: &HostRuntime, program: Program, at: usize) -> bool {
+    if is_there(rt, at) {
+        unknown(rt, program, at);
         return false;
     }
     true

@@ -17,21 +17,21 @@ pub struct Law {
 }
 
 // What the word says. Says where it is missing or another.
-pub fn law_at(program: Program, at: usize) -> Law {
-    if !is_there(at) {
+pub fn law_at(rt: &HostRuntime, program: Program, at: usize) -> Law {
+    if !is_there(rt, at) {
         missing(program, b"LAW");
         return none();
     }
-    if is_word(at, b"mu") {
+    if is_word(rt, at, b"mu") {
         return found(MU);
     }
-    if is_word(at, b"a") {
+    if is_word(rt, at, b"a") {
         return found(A);
     }
-    if takes_linear(program) & is_word(at, b"linear") {
+    if takes_linear(program) & is_word(rt, at, b"linear") {
         return found(LINEAR);
     }
-    wrong(program, b"no law: ", at);
+    wrong(rt, program, b"no law: ", at);
     none()
 }
 

@@ -46,12 +46,12 @@ pub struct Task {
     pub output: usize,
 }
 
-pub fn read() -> Task {
-    let options = read_options();
+pub fn read(rt: &HostRuntime) -> Task {
+    let options = read_options(rt);
     if !options.good {
         return none();
     }
-    with_command(options)
+    with_command(rt, options)
 }
 
 fn none() -> Task {
@@ -70,42 +70,43 @@ fn none() -> Task {
     }
 }
 
-fn with_command(options: Options) -> Task {
+fn with_command(rt: &HostRuntime, options: Options) -> Task {
     let at = options.at;
-    if is_word(at, b"encode") {
-        return coded(options, Command::Encode, read_encode(after(at)));
+    if is_word(rt, at, b"encode") {
+        return coded(rt, options, Command::Encode, read_encode(rt, after(at)));
     }
-    if is_word(at, b"decode") {
+    if is_word(rt, at, b"decode") {
         return coded(
+            rt,
             options,
             Command::Decode,
-            read_law(Program::Parchfennel, after(at)),
+            read_law(rt, Program::Parchfennel, after(at)),
         );
     }
-    if !is_there(at) {
+    if !is_there(rt, at) {
         missing(Program::Parchfennel, b"COMMAND");
         return none();
     }
-    stateless(options)
+    stateless(rt, options)
 }
 
-fn coded(options: Options, command: Command, coding: Coding) -> Task {
+fn coded(rt: &HostRuntime, options: Options, command: Command, coding: Coding) -> Task {
     if !coding.good {
         return none();
     }
-    whole(options, command, coding, uncut(), coding.at)
+    whole(rt, options, command, coding, uncut(), coding.at)
 }
 
 // A command that has no state to show
-fn stateless(options: Options) -> Task {
+fn stateless(rt: &HostRuntime, options: Options) -> Task {
     let at = options.at;
-    let drops = is_word(at, b"drop");
-    if !drops & !is_word(at, b"inspect") {
-        unknown(Program::Parchfennel, at);
+    let drops = is_word(rt, at, b"drop");
+    if !drops & !is_word(rt, at, b"inspect") {
+        unknown(rt, Program::Parchfennel, at);
         return none();
     }
     if 0 < options.states {
-        wrong(Program::Parchfennel, b"no states to write: ", at);
+        wrong(rt, Program::Parchfennel, b"no states to write: ", at);
         return none();
     }
     let quiet = Options {
@@ -113,23 +114,23 @@ fn stateless(options: Options) -> Task {
         ..options
     };
     if drops {
-        return thinned(quiet, read_cut(after(at)));
+        return thinned(rt, quiet, read_cut(rt, after(at)));
     }
-    whole(quiet, Command::Inspect, usual(), uncut(), after(at))
+    whole(rt, quiet, Command::Inspect, usual(), uncut(), after(at))
 }
 
-fn thinned(options: Options, cut: Cut) -> Task {
+fn thinned(rt: &HostRuntime, options: Options, cut: Cut) -> Task {
     if !cut.good {
         return none();
     }
-    whole(options, Command::Drop, usual(), cut, cut.at)
+    whole(rt, options, Command::Drop, usual(), cut, cut.at)
 }
 
 // The task, with IN and OUT from here on
-fn whole(options: Options, command: Command, coding: Coding, cut: Cut, at: usize) -> Task {
-    let ends = read_ends(at);
+fn whole(rt: &HostRuntime, options: Options, command: Command, coding: Coding, cut: Cut, at: usize) -> Task {
+    let ends = read_ends(rt, at);
     Task {
-        good: are_apart(ends, cut.list, options.states),
+        good: are_apart(rt, ends, cut.list, options.states),
         command,
         verbose: options.verbose,
         states: options.states,

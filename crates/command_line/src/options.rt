@@ -13,32 +13,32 @@ pub struct Options {
 }
 
 // There are two options, and so two steps.
-pub fn read_options() -> Options {
+pub fn read_options(rt: &HostRuntime) -> Options {
     let none = Options {
         good: true,
         at: 1,
         verbose: false,
         states: 0,
     };
-    take_option(take_option(none))
+    take_option(rt, take_option(rt, none))
 }
 
-fn take_option(o: Options) -> Options {
+fn take_option(rt: &HostRuntime, o: Options) -> Options {
     let at = o.at;
     if !o.good {
         return o;
     }
-    if !o.verbose & is_word(at, b"-v") {
+    if !o.verbose & is_word(rt, at, b"-v") {
         return Options {
             verbose: true,
             at: after(at),
             ..o
         };
     }
-    if (o.states == 0) & is_word(at, b"-states") {
+    if (o.states == 0) & is_word(rt, at, b"-states") {
         let file = after(at);
         return Options {
-            good: is_file(Program::Parchfennel, file),
+            good: is_file(rt, Program::Parchfennel, file),
             states: file,
             at: after(file),
             ..o

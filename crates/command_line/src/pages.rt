@@ -1,63 +1,64 @@
 // The help, the version and the usage of each program. The version is that of the file VERSION, the kit's line that of KIT.
-use crate::program::{Program, named, say_unwritten};
+use crate::program::{Program, named, put, say_unwritten};
 use crate::status::{WRONG_WORDS, status_of};
 use crate::words::{is_there, is_word};
 use crate::wrong::unknown;
-use libc::STDOUT_FILENO;
+use std::io::Error;
 use text::Line;
 
 // Where the first word asks for a page, the status that the program ends with
 #[derive(Clone, Copy)]
 pub enum Paged {
     Nothing,
-    Ended(i32),
+    Ended(u8),
 }
 
 // Writes the page that the first word asks for, which stands alone
-pub fn answer(program: Program) -> Paged {
-    if is_word(1, b"--help") {
-        return Paged::Ended(page(program, true));
+pub fn answer(rt: &HostRuntime, program: Program) -> Paged {
+    if is_word(rt, 1, b"--help") {
+        return Paged::Ended(page(rt, program, true));
     }
-    if is_word(1, b"--version") {
-        return Paged::Ended(page(program, false));
+    if is_word(rt, 1, b"--version") {
+        return Paged::Ended(page(rt, program, false));
     }
     Paged::Nothing
 }
 
-fn page(program: Program, help: bool) -> i32 {
-    if is_there(2) {
-        unknown(program, 2);
+fn page(rt: &HostRuntime, program: Program, help: bool) -> u8 {
+    if is_there(rt, 2) {
+        unknown(rt, program, 2);
         return WRONG_WORDS;
     }
-    let written = written_page(program, help);
-    if !written {
-        say_unwritten(program);
+    match written_page(rt, program, help) {
+        Ok(()) => status_of(true),
+        Err(error) => {
+            say_unwritten(program, error);
+            status_of(false)
+        }
     }
-    status_of(written)
 }
 
-fn written_page(program: Program, help: bool) -> bool {
+fn written_page(rt: &HostRuntime, program: Program, help: bool) -> Result<(), Error> {
     if help {
-        return write_help(program);
+        return write_help(rt, program);
     }
     let line = named(program).text(
         b" 0.6.0
-proved with rattle-kit-5b logic 064da1ca440f63e7
+proved with rattle-kit-13f logic dac8208d650f15bf
 ",
     );
-    line.write(STDOUT_FILENO)
+    put(rt, line)
 }
 
-fn write_help(program: Program) -> bool {
+fn write_help(rt: &HostRuntime, program: Program) -> Result<(), Error> {
     match program {
-        Program::Parchfennel => write_help_of_parchfennel(),
-        Program::Sequences => write_help_of_sequences(),
+        Program::Parchfennel => write_help_of_parchfennel(rt),
+        Program::Sequences => write_help_of_sequences(rt),
     }
 }
 
-fn write_help_of_parchfennel() -> bool {
-    io::write_all(
-        STDOUT_FILENO,
+fn write_help_of_parchfennel(rt: &HostRuntime) -> Result<(), Error> {
+    rt.write_all(
         b"parchfennel: the embedded ADPCM of Recommendation G.727 in a pipe
 
 Speech, in G.711 or in linear samples, becomes frames of 40, 32, 24 or 16 kbit/s,
@@ -110,9 +111,8 @@ Status:
     )
 }
 
-fn write_help_of_sequences() -> bool {
-    io::write_all(
-        STDOUT_FILENO,
+fn write_help_of_sequences(rt: &HostRuntime) -> Result<(), Error> {
+    rt.write_all(
         b"sequences: reads, writes and runs test sequences of Recommendation G.727
 
 A sequence is a text: two hexadecimal digits a value, up to 32 values a line, and

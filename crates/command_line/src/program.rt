@@ -1,5 +1,7 @@
 // The two programs whose words are read here: what each is called, and what it says where something fails.
-use text::Line;
+use std::fmt::InlineText;
+use std::io::Error;
+use text::{Line, STDERR, within};
 
 #[derive(Clone, Copy)]
 pub enum Program {
@@ -20,13 +22,33 @@ pub fn said_by(program: Program) -> Line {
     named(program).text(b": ")
 }
 
-// What failed, and why, by errno
-pub fn fail(line: Line) {
-    let octets = line.octets;
-    let n = text::within(line.count, &octets);
-    os::fail(&octets[..n]);
+// What failed, and why
+pub fn fail(line: Line, error: Error) {
+    line.write(STDERR);
+    why(error).write(STDERR);
 }
 
-pub fn say_unwritten(program: Program) {
-    fail(said_by(program).text(b"cannot write standard output"));
+// Of an error of the system its text alone: behind that std writes its number.
+fn why(error: Error) -> Line {
+    let said = InlineText::<256>::of(error);
+    let words = said.as_str();
+    let text = match words.split_once(" (os error ") {
+        Some((text, _)) => text,
+        None => words,
+    };
+    Line::empty().text(b": ").text(text.as_bytes()).octet(b'\n')
+}
+
+pub fn say_unwritten(program: Program, error: Error) {
+    fail(
+        said_by(program).text(b"cannot write standard output"),
+        error,
+    );
+}
+
+// To standard output, all of it
+pub fn put(rt: &HostRuntime, line: Line) -> Result<(), Error> {
+    let octets = line.octets;
+    let n = within(line.count, &octets);
+    rt.write_all(&octets[..n])
 }

@@ -23,24 +23,24 @@ pub struct Task {
     pub homing: usize,
 }
 
-pub fn read() -> Task {
-    if !is_there(1) {
+pub fn read(rt: &HostRuntime) -> Task {
+    if !is_there(rt, 1) {
         missing(Program::Sequences, b"COMMAND");
         return none();
     }
-    if is_word(1, b"read") {
-        return plain(Command::Read);
+    if is_word(rt, 1, b"read") {
+        return plain(rt, Command::Read);
     }
-    if is_word(1, b"write") {
-        return plain(Command::Write);
+    if is_word(rt, 1, b"write") {
+        return plain(rt, Command::Write);
     }
-    if is_word(1, b"encode") {
-        return coded(Command::Encode);
+    if is_word(rt, 1, b"encode") {
+        return coded(rt, Command::Encode);
     }
-    if is_word(1, b"decode") {
-        return coded(Command::Decode);
+    if is_word(rt, 1, b"decode") {
+        return coded(rt, Command::Decode);
     }
-    unknown(Program::Sequences, 1);
+    unknown(rt, Program::Sequences, 1);
     none()
 }
 
@@ -57,26 +57,26 @@ fn whole(good: bool, command: Command, coding: Coding, homing: usize) -> Task {
     }
 }
 
-fn plain(command: Command) -> Task {
-    whole(is_behind(Program::Sequences, 2), command, usual(), 0)
+fn plain(rt: &HostRuntime, command: Command) -> Task {
+    whole(is_behind(rt, Program::Sequences, 2), command, usual(), 0)
 }
 
-fn coded(command: Command) -> Task {
-    let coding = read_pair(Program::Sequences, 2);
+fn coded(rt: &HostRuntime, command: Command) -> Task {
+    let coding = read_pair(rt, Program::Sequences, 2);
     if !coding.good {
         return none();
     }
-    homed(command, coding, coding.at)
+    homed(rt, command, coding, coding.at)
 }
 
 // With HOMING, where one more word is there
-fn homed(command: Command, coding: Coding, at: usize) -> Task {
-    if !is_there(at) {
+fn homed(rt: &HostRuntime, command: Command, coding: Coding, at: usize) -> Task {
+    if !is_there(rt, at) {
         return whole(true, command, coding, 0);
     }
-    if !is_file(Program::Sequences, at) {
+    if !is_file(rt, Program::Sequences, at) {
         return none();
     }
-    let good = is_behind(Program::Sequences, after(at));
+    let good = is_behind(rt, Program::Sequences, after(at));
     whole(good, command, coding, at)
 }

@@ -1,11 +1,11 @@
 // What a program ends with.
-pub const DONE: i32 = 0;
+pub const DONE: u8 = 0;
 
-pub const FAILED: i32 = 1;
+pub const FAILED: u8 = 1;
 
-pub const WRONG_WORDS: i32 = 2;
+pub const WRONG_WORDS: u8 = 2;
 
-pub fn status_of(done: bool) -> i32 {
+pub fn status_of(done: bool) -> u8 {
     if done {
         return DONE;
     }

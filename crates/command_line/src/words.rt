@@ -1,7 +1,8 @@
-// The words that the tool is called with, by their places among the program's arguments, from 1 on.
+// The words that the tool is called with, by their places among the program's arguments, from 1 on. The runtime has them.
 ghost use Rattle.io.specs.Counts.{IsPrefixLen};
 
-use libc::ENAMETOOLONG;
+use std::env::FillError;
+use std::rt::Env;
 use text::within;
 
 // A number of decimal digits. One above 9,999 is 9,999: every limit of the calls lies far below.
@@ -11,8 +12,9 @@ pub struct Number {
     pub value: usize,
 }
 
-pub fn is_there(i: usize) -> bool {
-    i < os::arg_count()
+pub fn is_there(rt: &HostRuntime, i: usize) -> bool {
+    let mut word = io::buffer();
+    !matches!(rt.arg(i, &mut word), Err(FillError::NotPresent))
 }
 
 // The place after this one
@@ -21,39 +23,39 @@ pub fn after(i: usize) -> usize {
 }
 
 // The word at the start of the buffer, or as much of it as there is room for; 0 octets where it is missing
-pub fn copy_word(i: usize, word: &mut [u8]) -> usize
+pub fn copy_word(rt: &HostRuntime, i: usize, word: &mut [u8]) -> usize
     ensures { IsPrefixLen result word.new }
 {
-    let n = os::arg(i, word);
-    if os::errno() == ENAMETOOLONG {
-        return within(word.len(), word);
+    match rt.arg(i, word) {
+        Ok(n) => within(n, word),
+        Err(FillError::TooLong) => within(word.len(), word),
+        Err(FillError::NotPresent) => 0,
     }
-    n
 }
 
-pub fn is_word(i: usize, text: &[u8]) -> bool {
+pub fn is_word(rt: &HostRuntime, i: usize, text: &[u8]) -> bool {
     let mut word = io::buffer();
-    let n = copy_word(i, &mut word);
+    let n = copy_word(rt, i, &mut word);
     check::same(&word[..n], text)
 }
 
-pub fn are_same(i: usize, j: usize) -> bool {
+pub fn are_same(rt: &HostRuntime, i: usize, j: usize) -> bool {
     let mut word = io::buffer();
-    let n = copy_word(i, &mut word);
-    is_word(j, &word[..n])
+    let n = copy_word(rt, i, &mut word);
+    is_word(rt, j, &word[..n])
 }
 
 // Whether it can name a file: it is not empty, no number and no option
-pub fn is_name(i: usize) -> bool {
+pub fn is_name(rt: &HostRuntime, i: usize) -> bool {
     let mut word = io::buffer();
-    let n = copy_word(i, &mut word);
+    let n = copy_word(rt, i, &mut word);
     let number = read_number(&word[..n]);
     (0 < n) & (word[0] != b'-') & !number.good
 }
 
-pub fn number_at(i: usize) -> Number {
+pub fn number_at(rt: &HostRuntime, i: usize) -> Number {
     let mut word = io::buffer();
-    let n = copy_word(i, &mut word);
+    let n = copy_word(rt, i, &mut word);
     read_number(&word[..n])
 }
 
