@@ -127,7 +127,14 @@ fn thinned(rt: &HostRuntime, options: Options, cut: Cut) -> Task {
 }
 
 // The task, with IN and OUT from here on
-fn whole(rt: &HostRuntime, options: Options, command: Command, coding: Coding, cut: Cut, at: usize) -> Task {
+fn whole(
+    rt: &HostRuntime,
+    options: Options,
+    command: Command,
+    coding: Coding,
+    cut: Cut,
+    at: usize,
+) -> Task {
     let ends = read_ends(rt, at);
     Task {
         good: are_apart(rt, ends, cut.list, options.states),

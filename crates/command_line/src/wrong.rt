@@ -21,7 +21,10 @@ pub fn unknown(rt: &HostRuntime, program: Program, i: usize) {
 
 pub fn wrong_pair(rt: &HostRuntime, program: Program, width: usize, core: usize) {
     let line = wrong_words(program).text(b"no pair of WIDTH and CORE: '");
-    say_wrong(program, worded(rt, worded(rt, line, width).octet(b' '), core));
+    say_wrong(
+        program,
+        worded(rt, worded(rt, line, width).octet(b' '), core),
+    );
 }
 
 pub fn missing(program: Program, name: &[u8]) {

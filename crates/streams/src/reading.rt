@@ -1,11 +1,15 @@
-// Octets that are read from a descriptor, and what is said where that fails.
+// Octets that are read from a stream, and what is said where that fails.
+ghost use Rattle.std.specs.Prelude.{◌≡◌};
 ghost use Rattle.io.specs.Counts.{IsPrefixLen};
+ghost use Rattle.std.specs.Io.{ReadsAtMost};
 
+use crate::files::Stream;
 use command_line::program::{Program, fail, said_by};
-use libc::{EAGAIN, STDIN_FILENO};
+use std::fs;
+use std::io::{Error, ErrorKind, Read as Reads};
 use text::{Line, least, within};
 
-// By what name a source is told of: an input is standard input where its descriptor is
+// By what name a source is told of: an input is standard input where its stream is
 #[derive(Clone, Copy)]
 pub enum Name {
     Input,
@@ -14,10 +18,10 @@ pub enum Name {
 }
 
 // Where octets come from, and who says so where a read fails
-#[derive(Clone, Copy)]
+#[derive(Drop)]
 pub struct Source {
     pub program: Program,
-    pub fd: i32,
+    pub stream: Stream,
     pub name: Name,
 }
 
@@ -30,13 +34,13 @@ pub struct Read {
 
 // Reads octets from index `from` on up to index `to`; the count is of those before `from` too. Fewer than asked, and
 // good, where the stream ends.
-pub fn read_part(source: Source, buf: &mut [u8], from: usize, to: usize) -> Read
+pub fn read_part(rt: &HostRuntime, source: &Source, buf: &mut [u8], from: usize, to: usize) -> Read
     ensures { IsPrefixLen result.count buf.new }
 {
     let end = within(to, buf);
     let mut done = least(from, end);
     while done < end {
-        let more = read_once(source, &mut buf[done..end]);
+        let more = read_once(rt, source, &mut buf[done..end]);
         let n = more.count;
         if n == 0 {
             return Read {
@@ -53,62 +57,70 @@ pub fn read_part(source: Source, buf: &mut [u8], from: usize, to: usize) -> Read
 }
 
 // As many as one read gives: at least one, where the stream has not ended
-pub fn read_once(source: Source, part: &mut [u8]) -> Read
+pub fn read_once(rt: &HostRuntime, source: &Source, part: &mut [u8]) -> Read
     ensures { IsPrefixLen result.count part.new }
 {
-    let got = libc::read(source.fd, part);
-    if got < 0 {
-        return read_again(source, part);
+    match read_stream(rt, &source.stream, part) {
+        Ok(count) => Read { count, good: true },
+        Err(error) => read_again(rt, source, part, error),
     }
-    Read {
-        count: io::count(got, part),
-        good: true,
+}
+
+// From standard input where the stream is a standard one
+fn read_stream(rt: &HostRuntime, stream: &Stream, part: &mut [u8]) -> Result<usize, Error>
+    ensures { ReadsAtMost result part.new }
+{
+    match stream {
+        Stream::Nothing => Ok(0),
+        Stream::Standard => rt.stdin().read(part),
+        Stream::Opened(file) => {
+            let mut file = file;
+            file.read(part)
+        }
     }
 }
 
 // Standard input that does not wait is opened by its name: what is opened so waits.
-fn read_again(source: Source, part: &mut [u8]) -> Read
+fn read_again(rt: &HostRuntime, source: &Source, part: &mut [u8], error: Error) -> Read
     ensures { IsPrefixLen result.count part.new }
 {
-    if (source.fd != STDIN_FILENO) | (os::errno() != EAGAIN) {
-        fail(unread(source));
-        return Read {
-            count: 0,
-            good: false,
-        };
+    let waits = error.kind() != ErrorKind::WouldBlock;
+    if !source.stream.is_standard() | waits {
+        return failed(unread(source), error);
     }
-    let waiting = os::open_read(b"/dev/stdin");
-    if waiting < 0 {
-        fail(unread(source).text(b", which does not wait"));
-        return Read {
-            count: 0,
-            good: false,
-        };
-    }
-    let got = libc::read(waiting, part);
-    if got < 0 {
-        fail(unread(source));
-    }
-    libc::close(waiting);
-    Read {
-        count: io::count(got, part),
-        good: 0 <= got,
+    match fs::open(rt, "/dev/stdin") {
+        Err(error) => failed(unread(source).text(b", which does not wait"), error),
+        Ok(waiting) => {
+            let mut waiting = waiting;
+            match waiting.read(part) {
+                Ok(count) => Read { count, good: true },
+                Err(error) => failed(unread(source), error),
+            }
+        }
     }
 }
 
-fn unread(source: Source) -> Line {
-    let program = source.program;
-    let name = source.name;
-    let line = said_by(program).text(b"cannot read ");
-    match name {
+fn failed(line: Line, error: Error) -> Read
+    ensures { result.count ≡ 0 }
+{
+    fail(line, error);
+    Read {
+        count: 0,
+        good: false,
+    }
+}
+
+fn unread(source: &Source) -> Line {
+    let line = said_by(source.program).text(b"cannot read ");
+    match source.name {
         Name::List => line.text(b"the list"),
         Name::Homing => line.text(b"HOMING"),
-        Name::Input => input_named(line, source.fd),
+        Name::Input => input_named(line, source.stream.is_standard()),
     }
 }
 
-fn input_named(line: Line, fd: i32) -> Line {
-    if fd == STDIN_FILENO {
+fn input_named(line: Line, standard: bool) -> Line {
+    if standard {
         return line.text(b"standard input");
     }
     line.text(b"IN")

@@ -3,51 +3,51 @@ use Rattle.std.proofs.Common.{◌-◌, ◌≤◌, length, arith}
 use Rattle.command_line.proofs.words.read_number.Statement.{statement}
 use Rattle.command_line.proofs.words.read_number.Tie as tie
 
-abbrev invariant_loop : tie.invariant_loop
-invariant_loop word value₀ i₀ value i = i ≤ length word
+abbrev invariant-loop-i : tie.invariant-loop-i
+invariant-loop-i word value₀ i₀ value i = i ≤ length word
 
-abbrev decreases_loop : tie.decreases_loop
-decreases_loop word value₀ i₀ value i = length word - i
+abbrev decreases-loop-i : tie.decreases-loop-i
+decreases-loop-i word value₀ i₀ value i = length word - i
 
-loop-holds : tie.Need-loop-init invariant_loop decreases_loop
-loop-holds c = omega arith
+loop-i-init : tie.Need-loop-i-init invariant-loop-i decreases-loop-i
+loop-i-init c = omega arith
 
-shared-slice-read-digit-of : tie.Need-shared-slice-read-digit-of invariant_loop decreases_loop
-shared-slice-read-digit-of c = omega arith
+bounds-word-i : tie.Need-bounds-word-i invariant-loop-i decreases-loop-i
+bounds-word-i c = omega arith
 
-digit-of-requires : tie.Need-digit-of-requires invariant_loop decreases_loop
-digit-of-requires c κs = tt
+digit_of-digit-requires : tie.Need-digit_of-digit-requires invariant-loop-i decreases-loop-i
+digit_of-digit-requires c κs = tt
 
-returns : tie.Need-returns invariant_loop decreases_loop
+returns-then-digit-gt9 : tie.Need-returns-then-digit-gt9 invariant-loop-i decreases-loop-i
+returns-then-digit-gt9 c = tt
+
+grown-value-requires : tie.Need-grown-value-requires invariant-loop-i decreases-loop-i
+grown-value-requires c κs = tt
+
+overflow_add-i : tie.Need-overflow_add-i invariant-loop-i decreases-loop-i
+overflow_add-i c = omega arith
+
+loop-i-smaller : tie.Need-loop-i-smaller invariant-loop-i decreases-loop-i
+loop-i-smaller c = omega arith
+
+loop-i-preserved : tie.Need-loop-i-preserved invariant-loop-i decreases-loop-i
+loop-i-preserved c = omega arith
+
+returns : tie.Need-returns invariant-loop-i decreases-loop-i
 returns c = tt
-
-grown-requires : tie.Need-grown-requires invariant_loop decreases_loop
-grown-requires c κs = tt
-
-add-i : tie.Need-overflow-add-i invariant_loop decreases_loop
-add-i c = omega arith
-
-loop-less : tie.Need-loop-smaller invariant_loop decreases_loop
-loop-less c = omega arith
-
-loop-again : tie.Need-loop-preserved invariant_loop decreases_loop
-loop-again c = omega arith
-
-returns-2 : tie.Need-returns-2 invariant_loop decreases_loop
-returns-2 c = tt
 
 pub read_number_spec : {M : Type 1} → statement M
 read_number_spec =
     tie.close
     (tie.spec
-    invariant_loop
-    decreases_loop
-    loop-holds
-    shared-slice-read-digit-of
-    digit-of-requires
-    returns
-    grown-requires
-    add-i
-    loop-less
-    loop-again
-    returns-2)
+    invariant-loop-i
+    decreases-loop-i
+    loop-i-init
+    bounds-word-i
+    digit_of-digit-requires
+    returns-then-digit-gt9
+    grown-value-requires
+    overflow_add-i
+    loop-i-smaller
+    loop-i-preserved
+    returns)
