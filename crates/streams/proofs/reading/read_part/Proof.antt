@@ -8,10 +8,10 @@ use Rattle.streams.proofs.reading.read_part.Statement.{statement}
 use Rattle.streams.proofs.reading.read_part.Tie as tie
 
 abbrev invariant-loop-done : tie.invariant-loop-done
-invariant-loop-done source buf₀ from to end done₀ buf done = (done ≤ end) × (length buf ≡ length buf₀)
+invariant-loop-done rt source buf₀ from to end done₀ buf done = (done ≤ end) × (length buf ≡ length buf₀)
 
 abbrev decreases-loop-done : tie.decreases-loop-done
-decreases-loop-done source buf₀ from to end done₀ buf done = end - done
+decreases-loop-done rt source buf₀ from to end done₀ buf done = end - done
 
 within-end-requires : tie.Need-within-end-requires invariant-loop-done decreases-loop-done
 within-end-requires c κs = tt
@@ -25,11 +25,11 @@ loop-done-init c = omega arith
 slice_bounds-read_once-count : tie.Need-slice_bounds-read_once-count invariant-loop-done decreases-loop-done
 slice_bounds-read_once-count c = omega arith
 
-slice-bounds-read-once-start : tie.Need-slice-bounds-read-once-start invariant-loop-done decreases-loop-done
-slice-bounds-read-once-start c = omega arith
+slice_bounds-read_once-start : tie.Need-slice_bounds-read_once-start invariant-loop-done decreases-loop-done
+slice_bounds-read_once-start c = omega arith
 
-slice-bounds-read-once-end : tie.Need-slice-bounds-read-once-end invariant-loop-done decreases-loop-done
-slice-bounds-read-once-end c = omega arith
+slice_bounds-read_once-end : tie.Need-slice_bounds-read_once-end invariant-loop-done decreases-loop-done
+slice_bounds-read_once-end c = omega arith
 
 read_once-more-requires : tie.Need-read_once-more-requires invariant-loop-done decreases-loop-done
 read_once-more-requires c κs = tt
@@ -65,8 +65,8 @@ read_part_spec =
     least-done-requires
     loop-done-init
     slice_bounds-read_once-count
-    slice-bounds-read-once-start
-    slice-bounds-read-once-end
+    slice_bounds-read_once-start
+    slice_bounds-read_once-end
     read_once-more-requires
     shape_of-buf-then-n-eq0
     returns-then-n-eq0
