@@ -1,7 +1,8 @@
-// The tool as a program of this kit, which is run on an example and has no status. What is installed is the same library with
-// a main in C (host/main.c), and ends with the status that the library answers.
+// The tool as a program: what is installed, and ends with the status that the library answers.
 #![tactic(auto)]
 
-fn main() {
-    let _status = tool::run();
+use std::process::ExitCode;
+
+fn main(rt: HostRuntime) -> ExitCode {
+    ExitCode::from(tool::run(&rt))
 }

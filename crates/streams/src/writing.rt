@@ -3,6 +3,7 @@ use crate::files::Stream;
 use std::fs;
 use std::fs::{File, OpenOptions};
 use std::io::{Error, ErrorKind, Write};
+use text::{Line, within};
 
 // All of them, to standard output where the stream is a standard one
 pub fn put(rt: &HostRuntime, stream: &Stream, octets: &[u8]) -> Result<(), Error> {
@@ -14,6 +15,12 @@ pub fn put(rt: &HostRuntime, stream: &Stream, octets: &[u8]) -> Result<(), Error
             file.write_all(octets)
         }
     }
+}
+
+pub fn put_line(rt: &HostRuntime, stream: &Stream, line: Line) -> Result<(), Error> {
+    let octets = line.octets;
+    let n = within(line.count, &octets);
+    put(rt, stream, &octets[..n])
 }
 
 // What a file system holds back it may refuse only now. To close a file tells no more of that, so it is asked.

@@ -1,70 +1,96 @@
 // The files of a task, opened: standard input and output where no word names another.
-use command_line::program::Program;
+use command_line::program::{Program, fail, said_by};
 use command_line::{Task, program};
-use libc::{STDIN_FILENO, STDOUT_FILENO};
-use streams::files::{hold_standard_streams, opened};
+use std::io::Error;
+use streams::files::{Stream, hold_standard_streams, opened};
+use streams::reading::{Name, Source};
+use streams::writing::settle;
 
-const NONE: i32 = -1;
-
-// Descriptors; -1 for states that nobody asked for
-#[derive(Clone, Copy)]
+// Nothing is there for states that nobody asked for.
+#[derive(Drop)]
 pub struct Files {
     pub good: bool,
-    pub input: i32,
-    pub output: i32,
-    pub states: i32,
+    pub input: Source,
+    pub output: Stream,
+    pub states: Stream,
 }
 
 // IN first: where it is not there, OUT is not touched.
-pub fn open(task: Task) -> Files {
-    hold_standard_streams();
-    let input = opened(Program::Parchfennel, task.input, STDIN_FILENO, false);
-    if input < 0 {
+pub fn open(rt: &HostRuntime, task: Task) -> Files {
+    hold_standard_streams(rt);
+    let input = opened(
+        rt,
+        Program::Parchfennel,
+        task.input,
+        Stream::Standard,
+        false,
+    );
+    if !input.is_there() {
         return none();
     }
-    let output = opened(Program::Parchfennel, task.output, STDOUT_FILENO, true);
-    if output < 0 {
+    let output = opened(
+        rt,
+        Program::Parchfennel,
+        task.output,
+        Stream::Standard,
+        true,
+    );
+    if !output.is_there() {
         return none();
     }
-    let states = opened(Program::Parchfennel, task.states, NONE, true);
+    let states = opened(rt, Program::Parchfennel, task.states, Stream::Nothing, true);
     Files {
-        good: (task.states == 0) | (0 <= states),
-        input,
+        good: (task.states == 0) | states.is_there(),
+        input: source(input),
         output,
         states,
+    }
+}
+
+fn source(stream: Stream) -> Source {
+    Source {
+        program: Program::Parchfennel,
+        stream,
+        name: Name::Input,
     }
 }
 
 fn none() -> Files {
     Files {
         good: false,
-        input: NONE,
-        output: NONE,
-        states: NONE,
+        input: source(Stream::Nothing),
+        output: Stream::Nothing,
+        states: Stream::Nothing,
     }
 }
 
 // What a file system holds back it may refuse only now.
-pub fn closed(files: Files) -> bool {
-    if libc::close(files.output) < 0 {
-        say_unwritten(files);
+pub fn closed(rt: &HostRuntime, files: &Files) -> bool {
+    if let Err(error) = settle(rt, &files.output) {
+        say_unwritten(files, error);
         return false;
     }
-    if (0 <= files.states) && (libc::close(files.states) < 0) {
-        say_no_states();
+    if let Err(error) = settle(rt, &files.states) {
+        say_no_states(error);
         return false;
     }
     true
 }
 
-pub fn say_unwritten(files: Files) {
-    if files.output == STDOUT_FILENO {
-        program::say_unwritten(Program::Parchfennel);
+pub fn say_unwritten(files: &Files, error: Error) {
+    if files.output.is_standard() {
+        program::say_unwritten(Program::Parchfennel, error);
         return;
     }
-    os::fail(b"parchfennel: cannot write OUT");
+    fail(
+        said_by(Program::Parchfennel).text(b"cannot write OUT"),
+        error,
+    );
 }
 
-pub fn say_no_states() {
-    os::fail(b"parchfennel: cannot write the file of -states");
+pub fn say_no_states(error: Error) {
+    fail(
+        said_by(Program::Parchfennel).text(b"cannot write the file of -states"),
+        error,
+    );
 }

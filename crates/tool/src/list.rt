@@ -6,10 +6,9 @@ use command_line::coding::is_width;
 use command_line::program::{Program, said_by};
 use command_line::words::digit_of;
 use command_line::wrong::worded;
-use libc::STDERR_FILENO;
-use streams::files::opened;
+use streams::files::{Stream, opened};
 use streams::reading::{Name, Read, Source, read_part};
-use text::{Line, within};
+use text::{Line, STDERR, within};
 
 // How many widths there are, and the line that has something else, 0 where none has
 #[derive(Clone, Copy)]
@@ -19,7 +18,7 @@ struct Gathered {
 }
 
 // Puts the widths at the start of the buffer: none, and good, where no list is asked for. Says what is wrong with it.
-pub fn read_list(word: usize, widths: &mut [u8]) -> Read
+pub fn read_list(rt: &HostRuntime, word: usize, widths: &mut [u8]) -> Read
     ensures { IsPrefixLen result.count widths.new }
 {
     if word == 0 {
@@ -28,7 +27,7 @@ pub fn read_list(word: usize, widths: &mut [u8]) -> Read
             good: true,
         };
     }
-    let text = read_text(word, widths);
+    let text = read_text(rt, word, widths);
     let n = text.count;
     if !text.good {
         return text;
@@ -38,15 +37,15 @@ pub fn read_list(word: usize, widths: &mut [u8]) -> Read
     let list = gather(widths, n);
     Read {
         count: list.count,
-        good: is_good(word, full, list),
+        good: is_good(rt, word, full, list),
     }
 }
 
-fn read_text(word: usize, text: &mut [u8]) -> Read
+fn read_text(rt: &HostRuntime, word: usize, text: &mut [u8]) -> Read
     ensures { IsPrefixLen result.count text.new }
 {
-    let fd = opened(Program::Parchfennel, word, 0, false);
-    if fd < 0 {
+    let stream = opened(rt, Program::Parchfennel, word, Stream::Standard, false);
+    if !stream.is_there() {
         return Read {
             count: 0,
             good: false,
@@ -54,12 +53,10 @@ fn read_text(word: usize, text: &mut [u8]) -> Read
     }
     let source = Source {
         program: Program::Parchfennel,
-        fd,
+        stream,
         name: Name::List,
     };
-    let read = read_part(source, text, 0, text.len());
-    libc::close(fd);
-    read
+    read_part(rt, &source, text, 0, text.len())
 }
 
 // The widths of the first n octets, in their place: a width stands no later than its digit did.
@@ -101,30 +98,28 @@ fn widths_in(between: bool) -> usize
     1
 }
 
-fn is_good(word: usize, full: bool, list: Gathered) -> bool {
+fn is_good(rt: &HostRuntime, word: usize, full: bool, list: Gathered) -> bool {
     if full {
-        named(word)
+        named(rt, word)
             .text(b"': longer than 65535 octets\n")
-            .write(STDERR_FILENO);
+            .write(STDERR);
         return false;
     }
     if 0 < list.wrong {
-        named(word)
+        named(rt, word)
             .text(b"', line ")
             .number(list.wrong)
             .text(b": no width from 2 to 5\n")
-            .write(STDERR_FILENO);
+            .write(STDERR);
         return false;
     }
     if list.count == 0 {
-        named(word)
-            .text(b"': no width in it\n")
-            .write(STDERR_FILENO);
+        named(rt, word).text(b"': no width in it\n").write(STDERR);
         return false;
     }
     true
 }
 
-fn named(word: usize) -> Line {
-    worded(said_by(Program::Parchfennel).text(b"list '"), word)
+fn named(rt: &HostRuntime, word: usize) -> Line {
+    worded(rt, said_by(Program::Parchfennel).text(b"list '"), word)
 }

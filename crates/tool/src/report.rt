@@ -1,8 +1,7 @@
 // What is said on standard error of the data: why it was at fault, and notes.
 use command_line::program::{Program, said_by};
-use libc::STDERR_FILENO;
 use replies::{Reply, number_of};
-use text::Line;
+use text::{Line, STDERR};
 
 // What kind of line it is, the frame, and where it begins in the stream
 fn placed(kind: &[u8], frame: u64, octet: u64) -> Line {
@@ -28,7 +27,7 @@ pub fn refuse_number(frame: u64, octet: u64, found: u8, due: u8) {
         .text(b" where ")
         .number(due as u64)
         .text(b" was due\n")
-        .write(STDERR_FILENO);
+        .write(STDERR);
 }
 
 // A linear sample that no encoder takes: its place in the stream, and its value
@@ -40,7 +39,7 @@ pub fn refuse_sample(frame: u64, octet: u64, place: u64, sample: i16) {
         .text(b" is ")
         .sample(sample)
         .text(b", not from -8192 to 8191\n")
-        .write(STDERR_FILENO);
+        .write(STDERR);
 }
 
 // Any other reply than 0: the row of the table of replies
@@ -59,7 +58,7 @@ pub fn refuse(frame: u64, octet: u64, reply: Reply) {
             8: target width below y or above x\n\
             9: law not 0 (mu) or 1 (A)\n",
         )
-        .write(STDERR_FILENO);
+        .write(STDERR);
 }
 
 // The stream ends inside a frame, of which there are so many octets
@@ -75,7 +74,7 @@ pub fn say_cut(frame: u64, octet: u64, there: usize) {
 pub fn say_half(frame: u64, octet: u64) {
     placed(b"", frame, octet)
         .text(b"the stream ends inside a sample\n")
-        .write(STDERR_FILENO);
+        .write(STDERR);
 }
 
 // By how many samples the last frame was filled up, where it was
@@ -92,5 +91,5 @@ pub fn say_filled(frame: u64, octet: u64, samples: usize) {
 
 fn say_count(line: Line, count: usize) {
     let n = count as u64;
-    line.number(n).octet(b'\n').write(STDERR_FILENO);
+    line.number(n).octet(b'\n').write(STDERR);
 }

@@ -4,11 +4,10 @@ ghost use Rattle.io.specs.Counts.{IsPrefixLen};
 use crate::report::{say_cut, say_half};
 use crate::speech::{octet_count, whole_samples};
 use command_line::coding::Coding;
-use command_line::program::Program;
 use command_line::{Command, Task};
 use frame::header::{FEWEST, GROUP, Header, due_length, header_reply, read_header};
 use replies::is_done;
-use streams::reading::{Name, Read, Source, read_part};
+use streams::reading::{Read, Source, read_part};
 use text::within;
 
 // How many octets of the buffer there are, whether nothing went wrong, and by how many samples they were filled up. None, and
@@ -22,20 +21,22 @@ pub struct Piece {
 
 // What the command takes at once, at the start of the buffer: a frame's samples, or a frame. Of samples that lack, to a
 // whole group, the buffer has to hold silence.
-pub fn next_piece(task: Task, fd: i32, buf: &mut [u8], frame: u64, octet: u64) -> Piece
+pub fn next_piece(
+    rt: &HostRuntime,
+    task: Task,
+    input: &Source,
+    buf: &mut [u8],
+    frame: u64,
+    octet: u64,
+) -> Piece
     ensures { IsPrefixLen result.count buf.new }
 {
-    let input = Source {
-        program: Program::Parchfennel,
-        fd,
-        name: Name::Input,
-    };
     let coding = task.coding;
     let command = task.command;
     if let Command::Encode = command {
-        return next_samples(input, buf, coding, frame, octet);
+        return next_samples(rt, input, buf, coding, frame, octet);
     }
-    let read = next_frame(input, buf, frame, octet);
+    let read = next_frame(rt, input, buf, frame, octet);
     Piece {
         count: read.count,
         good: read.good,
@@ -44,11 +45,18 @@ pub fn next_piece(task: Task, fd: i32, buf: &mut [u8], frame: u64, octet: u64) -
 }
 
 // A stream that ends inside a sample is said.
-fn next_samples(input: Source, buf: &mut [u8], coding: Coding, frame: u64, octet: u64) -> Piece
+fn next_samples(
+    rt: &HostRuntime,
+    input: &Source,
+    buf: &mut [u8],
+    coding: Coding,
+    frame: u64,
+    octet: u64,
+) -> Piece
     ensures { IsPrefixLen result.count buf.new }
 {
     let law = coding.law;
-    let got = read_part(input, buf, 0, octet_count(law, coding.samples));
+    let got = read_part(rt, input, buf, 0, octet_count(law, coding.samples));
     let n = got.count;
     if (n == 0) | !got.good {
         return Piece {
@@ -76,16 +84,16 @@ fn next_samples(input: Source, buf: &mut [u8], coding: Coding, frame: u64, octet
 }
 
 // A stream that ends inside the frame is said.
-fn next_frame(input: Source, buf: &mut [u8], frame: u64, octet: u64) -> Read
+fn next_frame(rt: &HostRuntime, input: &Source, buf: &mut [u8], frame: u64, octet: u64) -> Read
     ensures { IsPrefixLen result.count buf.new }
 {
-    let head = read_part(input, buf, 0, FEWEST);
+    let head = read_part(rt, input, buf, 0, FEWEST);
     let n = head.count;
     if (n == 0) | !head.good {
         return head;
     }
     let due = octets_due(read_header(&buf[..n]));
-    let whole = read_part(input, buf, n, due);
+    let whole = read_part(rt, input, buf, n, due);
     let octets = whole.count;
     if whole.good & (octets < due) {
         say_cut(frame, octet, octets);

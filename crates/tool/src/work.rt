@@ -14,6 +14,7 @@ use frame::header::{read_header, sample_count};
 use replies::{Reply, is_done};
 use reset::reset;
 use state::State;
+use streams::writing;
 use text::Line;
 
 // What a command makes of a piece: the call's answer, what is to be written, and the state that the next piece meets
@@ -48,29 +49,29 @@ pub struct Turn {
 }
 
 // Answers whether all was done.
-pub fn perform(task: Task) -> bool {
+pub fn perform(rt: &HostRuntime, task: Task) -> bool {
     let mut widths = io::large_buffer();
     let cut = task.cut;
-    let list = read_list(cut.list, &mut widths);
+    let list = read_list(rt, cut.list, &mut widths);
     let n = list.count;
     if !list.good {
         return false;
     }
-    let files = files::open(task);
+    let files = files::open(rt, task);
     if !files.good {
         return false;
     }
-    let done = run(task, files, &widths[..n]);
-    done & files::closed(files)
+    let done = run(rt, task, &files, &widths[..n]);
+    done & files::closed(rt, &files)
 }
 
-fn run(task: Task, files: Files, widths: &[u8]) -> bool {
-    if !begin(task, files) {
+fn run(rt: &HostRuntime, task: Task, files: &Files, widths: &[u8]) -> bool {
+    if !begin(rt, task, files) {
         return false;
     }
     let coding = task.coding;
-    let turn = run_all(task, files, widths, start(coding.core));
-    end(task, files, turn) & turn.good
+    let turn = run_all(rt, task, files, widths, start(coding.core));
+    end(rt, task, files, turn) & turn.good
 }
 
 fn start(core: u8) -> Turn {
@@ -88,20 +89,20 @@ fn start(core: u8) -> Turn {
 }
 
 // A proved loop has to end, and nothing says that a stream does: it ends before a piece whose number no run reaches.
-fn run_all(task: Task, files: Files, widths: &[u8], from: Turn) -> Turn {
+fn run_all(rt: &HostRuntime, task: Task, files: &Files, widths: &[u8], from: Turn) -> Turn {
     let mut turn = from;
     let mut pieces = 0;
     while pieces < u64::MAX && turn.more {
-        turn = next(task, files, widths, turn);
+        turn = next(rt, task, files, widths, turn);
         pieces += 1;
     }
     turn
 }
 
-fn next(task: Task, files: Files, widths: &[u8], turn: Turn) -> Turn {
+fn next(rt: &HostRuntime, task: Task, files: &Files, widths: &[u8], turn: Turn) -> Turn {
     let coding = task.coding;
     let mut buf = silence(coding.law);
-    let piece = next_piece(task, files.input, &mut buf, turn.frame, turn.octet);
+    let piece = next_piece(rt, task, &files.input, &mut buf, turn.frame, turn.octet);
     let n = piece.count;
     if (n == 0) | !piece.good {
         return stopped(turn, piece.good);
@@ -114,7 +115,7 @@ fn next(task: Task, files: Files, widths: &[u8], turn: Turn) -> Turn {
     }
     // Not before the call, since no frame that is refused is filled up
     say_filled(turn.frame, turn.octet, piece.added);
-    if !put(task, files, turn.frame, made) {
+    if !put(rt, task, files, turn.frame, made) {
         return unwritten(turn);
     }
     let state = made.state;
@@ -166,21 +167,23 @@ fn make(task: Task, widths: &[u8], turn: Turn, piece: &[u8]) -> Made {
 }
 
 // Writes what was made, and the state where that is asked for; says where it cannot
-fn put(task: Task, files: Files, frame: u64, made: Made) -> bool {
+fn put(rt: &HostRuntime, task: Task, files: &Files, frame: u64, made: Made) -> bool {
     let octets = made.octets;
     let state = made.state;
-    if !put_line(files, octets) {
+    if !put_line(rt, files, octets) {
         return false;
     }
-    states::show(task.verbose, files.states, frame, state)
+    states::show(rt, task.verbose, &files.states, frame, state)
 }
 
-fn put_line(files: Files, line: Line) -> bool {
-    let written = line.write(files.output);
-    if !written {
-        files::say_unwritten(files);
+fn put_line(rt: &HostRuntime, files: &Files, line: Line) -> bool {
+    match writing::put_line(rt, &files.output, line) {
+        Ok(()) => true,
+        Err(error) => {
+            files::say_unwritten(files, error);
+            false
+        }
     }
-    written
 }
 
 // After a piece. Encode's has no header, and its totals nobody asks for.
@@ -196,23 +199,23 @@ fn passed(turn: Turn, state: State, piece: &[u8]) -> Turn {
 }
 
 // The headings
-fn begin(task: Task, files: Files) -> bool {
+fn begin(rt: &HostRuntime, task: Task, files: &Files) -> bool {
     let command = task.command;
     let good = match command {
-        Command::Inspect => put_line(files, inspecting::heading()),
+        Command::Inspect => put_line(rt, files, inspecting::heading()),
         _ => true,
     };
-    good & states::begin(files.states)
+    good & states::begin(rt, &files.states)
 }
 
 // The totals, also of a stream that stopped
-fn end(task: Task, files: Files, turn: Turn) -> bool {
+fn end(rt: &HostRuntime, task: Task, files: &Files, turn: Turn) -> bool {
     if !turn.written {
         return false;
     }
     let command = task.command;
     match command {
-        Command::Inspect => put_line(files, inspecting::totals(turn)),
+        Command::Inspect => put_line(rt, files, inspecting::totals(turn)),
         _ => true,
     }
 }
