@@ -3,67 +3,67 @@ use Rattle.std.proofs.Common.{◌-◌, ◌≤◌, length, arith}
 use Rattle.tool.proofs.encoding.say_first_off_scale.Statement.{statement}
 use Rattle.tool.proofs.encoding.say_first_off_scale.Tie as tie
 
-abbrev invariant_loop : tie.invariant_loop
-invariant_loop frame octet samples first i₀ i = i ≤ length samples
+abbrev invariant-loop-i : tie.invariant-loop-i
+invariant-loop-i frame octet samples first i₀ i = i ≤ length samples
 
-abbrev decreases_loop : tie.decreases_loop
-decreases_loop frame octet samples first i₀ i = length samples - i
+abbrev decreases-loop-i : tie.decreases-loop-i
+decreases-loop-i frame octet samples first i₀ i = length samples - i
 
-loop-holds : tie.Need-loop-init invariant_loop decreases_loop
-loop-holds c = omega arith
+loop-i-init : tie.Need-loop-i-init invariant-loop-i decreases-loop-i
+loop-i-init c = omega arith
 
-mul-is-level : tie.Need-overflow-mul-is-level invariant_loop decreases_loop
-mul-is-level c = omega arith
+offset_bounds-samples-i : tie.Need-offset_bounds-samples-i invariant-loop-i decreases-loop-i
+offset_bounds-samples-i c = omega arith
 
-shared-slice-copy-out-is-level : tie.Need-shared-slice-copy-out-is-level invariant_loop decreases_loop
-shared-slice-copy-out-is-level c = omega arith
+bounds-samples-i : tie.Need-bounds-samples-i invariant-loop-i decreases-loop-i
+bounds-samples-i c = omega arith
 
-is-level-requires : tie.Need-is-level-requires invariant_loop decreases_loop
-is-level-requires c κs = tt
+is_level-requires : tie.Need-is_level-requires invariant-loop-i decreases-loop-i
+is_level-requires c κs = tt
 
-wrapping-add-u64-requires : tie.Need-wrapping-add-u64-requires invariant_loop decreases_loop
-wrapping-add-u64-requires c κs = tt
+wrapping_add_u64-place-requires : tie.Need-wrapping_add_u64-place-requires invariant-loop-i decreases-loop-i
+wrapping_add_u64-place-requires c κs = tt
 
-mul-refuse-sample : tie.Need-overflow-mul-refuse-sample invariant_loop decreases_loop
-mul-refuse-sample c = omega arith
+offset_bounds-samples-i-then-not-is_level : tie.Need-offset_bounds-samples-i-then-not-is_level invariant-loop-i decreases-loop-i
+offset_bounds-samples-i-then-not-is_level c = omega arith
 
-shared-slice-copy-out-refuse-sample : tie.Need-shared-slice-copy-out-refuse-sample invariant_loop decreases_loop
-shared-slice-copy-out-refuse-sample c = omega arith
+bounds-samples-i-then-not-is_level : tie.Need-bounds-samples-i-then-not-is_level invariant-loop-i decreases-loop-i
+bounds-samples-i-then-not-is_level c = omega arith
 
-refuse-sample-requires : tie.Need-refuse-sample-requires invariant_loop decreases_loop
-refuse-sample-requires c κs = tt
+refuse_sample-requires : tie.Need-refuse_sample-requires invariant-loop-i decreases-loop-i
+refuse_sample-requires c κs = tt
 
-returns : tie.Need-returns invariant_loop decreases_loop
+returns-then-not-is_level : tie.Need-returns-then-not-is_level invariant-loop-i decreases-loop-i
+returns-then-not-is_level c = tt
+
+overflow_add-i : tie.Need-overflow_add-i invariant-loop-i decreases-loop-i
+overflow_add-i c = omega arith
+
+loop-i-smaller : tie.Need-loop-i-smaller invariant-loop-i decreases-loop-i
+loop-i-smaller c = omega arith
+
+loop-i-preserved : tie.Need-loop-i-preserved invariant-loop-i decreases-loop-i
+loop-i-preserved c = omega arith
+
+returns : tie.Need-returns invariant-loop-i decreases-loop-i
 returns c = tt
-
-add-i : tie.Need-overflow-add-i invariant_loop decreases_loop
-add-i c = omega arith
-
-loop-less : tie.Need-loop-smaller invariant_loop decreases_loop
-loop-less c = omega arith
-
-loop-again : tie.Need-loop-preserved invariant_loop decreases_loop
-loop-again c = omega arith
-
-returns-2 : tie.Need-returns-2 invariant_loop decreases_loop
-returns-2 c = tt
 
 pub say_first_off_scale_spec : {M : Type 1} → statement M
 say_first_off_scale_spec =
     tie.close
     (tie.spec
-    invariant_loop
-    decreases_loop
-    loop-holds
-    mul-is-level
-    shared-slice-copy-out-is-level
-    is-level-requires
-    wrapping-add-u64-requires
-    mul-refuse-sample
-    shared-slice-copy-out-refuse-sample
-    refuse-sample-requires
-    returns
-    add-i
-    loop-less
-    loop-again
-    returns-2)
+    invariant-loop-i
+    decreases-loop-i
+    loop-i-init
+    offset_bounds-samples-i
+    bounds-samples-i
+    is_level-requires
+    wrapping_add_u64-place-requires
+    offset_bounds-samples-i-then-not-is_level
+    bounds-samples-i-then-not-is_level
+    refuse_sample-requires
+    returns-then-not-is_level
+    overflow_add-i
+    loop-i-smaller
+    loop-i-preserved
+    returns)

@@ -5,87 +5,87 @@ use Rattle.io.proofs.Counting.{prefix_len_of_le}
 use Rattle.tool.proofs.list.gather.Statement.{statement}
 use Rattle.tool.proofs.list.gather.Tie as tie
 
-abbrev invariant_loop : tie.invariant_loop
-invariant_loop text₀ n end count₀ line₀ apart₀ i₀ text count line apart i = (count ≤ i) × (i ≤ end) × (length text ≡ length text₀)
+abbrev invariant-loop-i : tie.invariant-loop-i
+invariant-loop-i text₀ n end count₀ line₀ apart₀ i₀ text count line apart i = (count ≤ i) × (i ≤ end) × (length text ≡ length text₀)
 
-abbrev decreases_loop : tie.decreases_loop
-decreases_loop text₀ n end count₀ line₀ apart₀ i₀ text count line apart i = end - i
+abbrev decreases-loop-i : tie.decreases-loop-i
+decreases-loop-i text₀ n end count₀ line₀ apart₀ i₀ text count line apart i = end - i
 
-within-requires : tie.Need-within-requires invariant_loop decreases_loop
-within-requires c κs = tt
+within-end-requires : tie.Need-within-end-requires invariant-loop-i decreases-loop-i
+within-end-requires c κs = tt
 
-loop-holds : tie.Need-loop-init invariant_loop decreases_loop
-loop-holds c = omega arith
+loop-i-init : tie.Need-loop-i-init invariant-loop-i decreases-loop-i
+loop-i-init c = omega arith
 
-slice-read-octet : tie.Need-slice-read-octet invariant_loop decreases_loop
-slice-read-octet c = omega arith
+bounds-text-i : tie.Need-bounds-text-i invariant-loop-i decreases-loop-i
+bounds-text-i c = omega arith
 
-is-between-requires : tie.Need-is-between-requires invariant_loop decreases_loop
-is-between-requires c κs = tt
+is_between-between-requires : tie.Need-is_between-between-requires invariant-loop-i decreases-loop-i
+is_between-between-requires c κs = tt
 
-digit-of-requires : tie.Need-digit-of-requires invariant_loop decreases_loop
-digit-of-requires c κs = tt
+digit_of-digit-requires : tie.Need-digit_of-digit-requires invariant-loop-i decreases-loop-i
+digit_of-digit-requires c κs = tt
 
-is-width-requires : tie.Need-is-width-requires invariant_loop decreases_loop
-is-width-requires c κs = tt
+is_width-requires : tie.Need-is_width-requires invariant-loop-i decreases-loop-i
+is_width-requires c κs = tt
 
-same_length : tie.Need-same-length invariant_loop decreases_loop
-same_length c = omega arith
+shape_of-text-then-between-apart : tie.Need-shape_of-text-then-between-apart invariant-loop-i decreases-loop-i
+shape_of-text-then-between-apart c = omega arith
 
-returns : tie.Need-returns invariant_loop decreases_loop
+returns-then-between-apart : tie.Need-returns-then-between-apart invariant-loop-i decreases-loop-i
+returns-then-between-apart c = prefix_len_of_le _ _ (omega arith)
+
+widths_in-count-requires : tie.Need-widths_in-count-requires invariant-loop-i decreases-loop-i
+widths_in-count-requires c κs = tt
+
+bounds-text-count : tie.Need-bounds-text-count invariant-loop-i decreases-loop-i
+bounds-text-count c = omega arith
+
+overflow_add-count : tie.Need-overflow_add-count invariant-loop-i decreases-loop-i
+overflow_add-count c = omega arith
+
+overflow_cast-octet : tie.Need-overflow_cast-octet invariant-loop-i decreases-loop-i
+overflow_cast-octet c = omega arith
+
+wrapping_add_u64-line-requires : tie.Need-wrapping_add_u64-line-requires invariant-loop-i decreases-loop-i
+wrapping_add_u64-line-requires c κs = tt
+
+overflow_add-i : tie.Need-overflow_add-i invariant-loop-i decreases-loop-i
+overflow_add-i c = omega arith
+
+loop-i-smaller : tie.Need-loop-i-smaller invariant-loop-i decreases-loop-i
+loop-i-smaller c = omega arith
+
+loop-i-preserved : tie.Need-loop-i-preserved invariant-loop-i decreases-loop-i
+loop-i-preserved c = simp (length-set) (omega arith)
+
+shape_of-text : tie.Need-shape_of-text invariant-loop-i decreases-loop-i
+shape_of-text c = omega arith
+
+returns : tie.Need-returns invariant-loop-i decreases-loop-i
 returns c = prefix_len_of_le _ _ (omega arith)
-
-widths-in-requires : tie.Need-widths-in-requires invariant_loop decreases_loop
-widths-in-requires c κs = tt
-
-slice-write-text : tie.Need-slice-write-text invariant_loop decreases_loop
-slice-write-text c = omega arith
-
-add-count : tie.Need-overflow-add-count invariant_loop decreases_loop
-add-count c = omega arith
-
-cast-wrapping-add-u64 : tie.Need-overflow-cast-wrapping-add-u64 invariant_loop decreases_loop
-cast-wrapping-add-u64 c = omega arith
-
-wrapping-add-u64-requires : tie.Need-wrapping-add-u64-requires invariant_loop decreases_loop
-wrapping-add-u64-requires c κs = tt
-
-add-i : tie.Need-overflow-add-i invariant_loop decreases_loop
-add-i c = omega arith
-
-loop-less : tie.Need-loop-smaller invariant_loop decreases_loop
-loop-less c = omega arith
-
-loop-again : tie.Need-loop-preserved invariant_loop decreases_loop
-loop-again c = simp (length-set) (omega arith)
-
-same-length-2 : tie.Need-same-length-2 invariant_loop decreases_loop
-same-length-2 c = omega arith
-
-returns-2 : tie.Need-returns-2 invariant_loop decreases_loop
-returns-2 c = prefix_len_of_le _ _ (omega arith)
 
 pub gather_spec : {M : Type 1} → statement M
 gather_spec =
     tie.close
     (tie.spec
-    invariant_loop
-    decreases_loop
-    within-requires
-    loop-holds
-    slice-read-octet
-    digit-of-requires
-    is-between-requires
-    is-width-requires
-    same_length
-    returns
-    slice-write-text
-    widths-in-requires
-    add-count
-    cast-wrapping-add-u64
-    wrapping-add-u64-requires
-    add-i
-    loop-less
-    loop-again
-    same-length-2
-    returns-2)
+    invariant-loop-i
+    decreases-loop-i
+    within-end-requires
+    loop-i-init
+    bounds-text-i
+    digit_of-digit-requires
+    is_between-between-requires
+    is_width-requires
+    shape_of-text-then-between-apart
+    returns-then-between-apart
+    bounds-text-count
+    widths_in-count-requires
+    overflow_add-count
+    overflow_cast-octet
+    wrapping_add_u64-line-requires
+    overflow_add-i
+    loop-i-smaller
+    loop-i-preserved
+    shape_of-text
+    returns)
