@@ -1,9 +1,8 @@
-// The two tools as functions for a main in C (host/main.c), which ends with what they answer.
+// The two tools as functions: each does what the program's words ask, and answers the status that the program ends with.
 #![tactic(auto)]
 
-#[unsafe(no_mangle)]
-pub extern "C" fn parchfennel() -> i32 {
-    tool::run()
+pub fn parchfennel(rt: &HostRuntime) -> u8 {
+    tool::run(rt)
 }
 
 #[unsafe(no_mangle)]

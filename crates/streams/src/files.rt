@@ -1,4 +1,5 @@
 // Files that a word of the call names, opened, and the standard streams kept apart from them.
+use crate::names::unnamed;
 use command_line::program::{Program, fail, said_by};
 use command_line::words::copy_word;
 use command_line::wrong::worded;
@@ -76,24 +77,10 @@ fn open_word(rt: &HostRuntime, word: usize, written: bool) -> Result<File, Error
     let mut name = io::buffer();
     let n = copy_word(rt, word, &mut name);
     let Ok(path) = str::from_utf8(&name[..n]) else {
-        return Err(unnamed(n));
+        return Err(unnamed(rt, &name[..n], written));
     };
     if written {
         return fs::create(rt, path);
     }
     fs::open(rt, path)
-}
-
-// Of no UTF-8 std has no path. What is too long for the system it refuses as the system does.
-const LONGEST: usize = 4095;
-
-const EILSEQ: i32 = 84;
-
-const ENAMETOOLONG: i32 = 36;
-
-fn unnamed(length: usize) -> Error {
-    if LONGEST < length {
-        return Error::from_raw_os_error(ENAMETOOLONG);
-    }
-    Error::from_raw_os_error(EILSEQ)
 }

@@ -2,5 +2,6 @@
 #![tactic(auto)]
 
 pub mod files;
+mod names;
 pub mod reading;
 pub mod writing;
