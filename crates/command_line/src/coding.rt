@@ -1,8 +1,8 @@
 // The words of encode and decode: LAW WIDTH CORE [SAMPLES [EDITION]], and LAW; of sequences both have LAW WIDTH CORE.
+use crate::call_words::{after, number_at, octet_of};
 use crate::kinds::number;
 use crate::law::{MU, law_at};
 use crate::program::Program;
-use crate::words::{after, number_at, octet_of};
 use crate::wrong::{wrong, wrong_pair};
 use frame::header::{PLAIN, is_count, is_edition};
 use quantizer::pair::is_pair;

@@ -1,8 +1,8 @@
 // The words of drop: [-most] WIDTH, or [-most] -list FILE.
+use crate::call_words::{after, is_word, octet_of};
 use crate::coding::is_width;
 use crate::kinds::{is_file, number};
 use crate::program::Program;
-use crate::words::{after, is_word, octet_of};
 use crate::wrong::wrong;
 
 // What they ask, and the place behind them

@@ -1,7 +1,7 @@
 // IN and OUT, the last words, and that no file is written that another word names.
+use crate::call_words::{after, are_same, is_there, is_word};
 use crate::kinds::{is_behind, is_file};
 use crate::program::Program;
-use crate::words::{after, are_same, is_there, is_word};
 use crate::wrong::wrong;
 
 #[derive(Clone, Copy)]

@@ -1,6 +1,6 @@
 // A word that has to be of a kind: a file's name, a number, or no word at all. Says where it is missing or another.
+use crate::call_words::{Number, is_name, is_there, number_at};
 use crate::program::Program;
-use crate::words::{Number, is_name, is_there, number_at};
 use crate::wrong::{missing, unknown, wrong};
 
 pub fn is_file(rt: &HostRuntime, program: Program, at: usize) -> bool {

@@ -1,7 +1,7 @@
 // LAW: how speech is coded where it is no frame. The two laws have the numbers that the calls take; linear samples have calls of
 // their own, and of the two programs only the tool takes them.
+use crate::call_words::{is_there, is_word};
 use crate::program::Program;
-use crate::words::{is_there, is_word};
 use crate::wrong::{missing, wrong};
 
 pub const MU: u8 = 0;

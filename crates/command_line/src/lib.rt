@@ -3,6 +3,7 @@
 // `sequences`, are read in sequences.rt, out of the same kinds of word.
 #![tactic(auto)]
 
+pub mod call_words;
 pub mod coding;
 pub mod cutting;
 mod ends;
@@ -13,15 +14,14 @@ pub mod pages;
 pub mod program;
 pub mod sequences;
 pub mod status;
-pub mod words;
 pub mod wrong;
 
+use crate::call_words::{after, is_there, is_word};
 use crate::coding::{Coding, read_encode, read_law, usual};
 use crate::cutting::{Cut, read_cut, uncut};
 use crate::ends::{are_apart, read_ends};
 use crate::options::{Options, read_options};
 use crate::program::Program;
-use crate::words::{after, is_there, is_word};
 use crate::wrong::{missing, unknown, wrong};
 
 #[derive(Clone, Copy)]

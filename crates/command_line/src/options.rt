@@ -1,7 +1,7 @@
 // -v and -states FILE, before the command and in any order.
+use crate::call_words::{after, is_word};
 use crate::kinds::is_file;
 use crate::program::Program;
-use crate::words::{after, is_word};
 
 // Those that are there, and the place behind them
 #[derive(Clone, Copy)]

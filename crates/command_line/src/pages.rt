@@ -1,7 +1,7 @@
 // The help, the version and the usage of each program. The version is that of the file VERSION, the kit's line that of KIT.
+use crate::call_words::{is_there, is_word};
 use crate::program::{Program, named, put, say_unwritten};
 use crate::status::{WRONG_WORDS, status_of};
-use crate::words::{is_there, is_word};
 use crate::wrong::unknown;
 use std::io::Error;
 use text::Line;

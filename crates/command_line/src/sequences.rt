@@ -1,9 +1,9 @@
 // The words of the program `sequences`, read from the left into a task: COMMAND, and of encode and decode LAW WIDTH CORE
 // [HOMING]. The first wrong word is said, and then there is no task.
+use crate::call_words::{after, is_there, is_word};
 use crate::coding::{Coding, read_pair, usual};
 use crate::kinds::{is_behind, is_file};
 use crate::program::Program;
-use crate::words::{after, is_there, is_word};
 use crate::wrong::{missing, unknown};
 
 #[derive(Clone, Copy)]

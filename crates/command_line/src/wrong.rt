@@ -1,9 +1,9 @@
 // What is said of wrong words: the first one, and the usage.
 ghost use Rattle.std.specs.Prelude.{◌≡◌, length};
 
+use crate::call_words::copy_word;
 use crate::pages::with_usage;
 use crate::program::{Program, said_by};
-use crate::words::copy_word;
 use text::{Line, STDERR};
 
 // Octets of a word that are shown

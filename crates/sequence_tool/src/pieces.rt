@@ -5,7 +5,7 @@ use crate::codec::{Codec, make};
 use crate::output::put;
 use crate::report::say_codeword;
 use crate::streaming::{Way, is_text};
-use command_line::words::after;
+use command_line::call_words::after;
 use sequence::reader;
 use sequence::reader::{Reader, is_refused, last_place};
 use sequence_writer::Writer;

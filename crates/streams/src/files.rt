@@ -1,7 +1,7 @@
 // Files that a word of the call names, opened, and the standard streams kept apart from them.
 use crate::names::unnamed;
+use command_line::call_words::copy_word;
 use command_line::program::{Program, fail, said_by};
-use command_line::words::copy_word;
 use command_line::wrong::worded;
 use std::fs;
 use std::fs::File;

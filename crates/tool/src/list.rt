@@ -2,9 +2,9 @@
 ghost use Rattle.std.specs.Prelude.{◌≤◌};
 ghost use Rattle.io.specs.Counts.{IsPrefixLen};
 
+use command_line::call_words::digit_of;
 use command_line::coding::is_width;
 use command_line::program::{Program, said_by};
-use command_line::words::digit_of;
 use command_line::wrong::worded;
 use streams::files::{Stream, opened};
 use streams::reading::{Name, Read, Source, read_part};

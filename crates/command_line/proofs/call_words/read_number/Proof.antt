@@ -1,7 +1,7 @@
--- `command_line::words::read_number` is safe and ends. The loop's invariant: the place is within the word. The measure is what is left of the word.
+-- `command_line::call_words::read_number` is safe and ends. The loop's invariant: the place is within the word. The measure is what is left of the word.
 use Rattle.std.proofs.Common.{◌-◌, ◌≤◌, length, arith}
-use Rattle.command_line.proofs.words.read_number.Statement.{statement}
-use Rattle.command_line.proofs.words.read_number.Tie as tie
+use Rattle.command_line.proofs.call_words.read_number.Statement.{statement}
+use Rattle.command_line.proofs.call_words.read_number.Tie as tie
 
 abbrev invariant-loop-i : tie.invariant-loop-i
 invariant-loop-i word value₀ i₀ value i = i ≤ length word
