@@ -3,17 +3,17 @@ use Rattle.std.proofs.Common.{rules}
 use Rattle.sequence_writer.proofs.closed.Statement.{statement}
 use Rattle.sequence_writer.proofs.closed.Tie as tie
 
-returns : tie.Need-returns
-returns c = search rules
+returns-in-Values : tie.Need-returns-in-Values
+returns-in-Values c = search rules
 
-returns-2 : tie.Need-returns-2
-returns-2 c = search rules
+returns-in-Closing : tie.Need-returns-in-Closing
+returns-in-Closing c = search rules
 
-returns-3 : tie.Need-returns-3
-returns-3 c = search rules
+returns-in-Remainder : tie.Need-returns-in-Remainder
+returns-in-Remainder c = search rules
 
-returns-4 : tie.Need-returns-4
-returns-4 c = search rules
+returns-in-Done : tie.Need-returns-in-Done
+returns-in-Done c = search rules
 
 pub closed_spec : {M : Type 1} → statement M
-closed_spec = tie.close (tie.spec (search rules) (search rules) (search rules) (search rules) returns returns-2 returns-3 returns-4)
+closed_spec = tie.close (tie.spec (search rules) (search rules) (search rules) (search rules) returns-in-Values returns-in-Closing returns-in-Remainder returns-in-Done)

@@ -4,51 +4,51 @@ use Rattle.sequence_writer.specs.Writing.{next_of}
 use Rattle.sequence_writer.proofs.next.Statement.{statement}
 use Rattle.sequence_writer.proofs.next.Tie as tie
 
-second-digit-requires : tie.Need-second-digit-requires
-second-digit-requires c κs = search rules
+second_digit-requires : tie.Need-second_digit-requires
+second_digit-requires c κs = search rules
 
-returns : tie.Need-returns
+returns-then-w-eq1 : tie.Need-returns-then-w-eq1
 unfolding next_of
-returns c = c.second-digit.ensures ∙ rw (eq-eqb _ _ c.before.if1.true)
+returns-then-w-eq1 c = c.second_digit.ensures ∙ rw (eq-eqb _ _ c.before.if-w-eq1.true)
 
-ends-line-requires : tie.Need-ends-line-requires
-ends-line-requires c κs = search rules
+ends_line-requires : tie.Need-ends_line-requires
+ends_line-requires c κs = search rules
 
 fed-requires : tie.Need-fed-requires
 fed-requires c κs = search rules
 
-returns-2 : tie.Need-returns-2
+returns-then-ends_line : tie.Need-returns-then-ends_line
 unfolding next_of
-returns-2 c = c.fed.ensures ∙ rw (ne_eqb _ _ c.before.before.before.if1.false, sym c.before.before.ends-line.ensures ∙ c.before.if2.true)
+returns-then-ends_line c = c.fed.ensures ∙ rw (ne_eqb _ _ c.before.before.before.if-w-eq1.false, sym c.before.before.ends_line.ensures ∙ c.before.if-ends_line.true)
 
 awaits-requires : tie.Need-awaits-requires
 awaits-requires c κs = search rules
 
-first-digit-requires : tie.Need-first-digit-requires
-first-digit-requires c κs = search rules
+first_digit-requires : tie.Need-first_digit-requires
+first_digit-requires c κs = search rules
 
-returns-3 : tie.Need-returns-3
+returns-then-awaits : tie.Need-returns-then-awaits
 unfolding next_of
-returns-3 c = c.first-digit.ensures ∙ rw (ne_eqb _ _ c.before.before.before.before.before.if1.false, sym c.before.before.before.before.ends-line.ensures ∙ c.before.before.before.if2.false, sym c.before.before.awaits.ensures ∙ c.before.if3.true)
+returns-then-awaits c = c.first_digit.ensures ∙ rw (ne_eqb _ _ c.before.before.before.before.before.if-w-eq1.false, sym c.before.before.before.before.ends_line.ensures ∙ c.before.before.before.if-ends_line.false, sym c.before.before.awaits.ensures ∙ c.before.if-awaits.true)
 
-remainder-begun-requires : tie.Need-remainder-begun-requires
-remainder-begun-requires c κs = search rules
+remainder_begun-requires : tie.Need-remainder_begun-requires
+remainder_begun-requires c κs = search rules
 
-returns-4 : tie.Need-returns-4
+returns : tie.Need-returns
 unfolding next_of
-returns-4 c = c.remainder-begun.ensures ∙ rw (ne_eqb _ _ c.before.before.before.before.before.if1.false, sym c.before.before.before.before.ends-line.ensures ∙ c.before.before.before.if2.false, sym c.before.before.awaits.ensures ∙ c.before.if3.false)
+returns c = c.remainder_begun.ensures ∙ rw (ne_eqb _ _ c.before.before.before.before.before.if-w-eq1.false, sym c.before.before.before.before.ends_line.ensures ∙ c.before.before.before.if-ends_line.false, sym c.before.before.awaits.ensures ∙ c.before.if-awaits.false)
 
 pub next_spec : {M : Type 1} → statement M
 next_spec =
     tie.close
     (tie.spec
-    second-digit-requires
-    returns
-    ends-line-requires
+    second_digit-requires
+    returns-then-w-eq1
+    ends_line-requires
     fed-requires
-    returns-2
+    returns-then-ends_line
     awaits-requires
-    first-digit-requires
-    returns-3
-    remainder-begun-requires
-    returns-4)
+    first_digit-requires
+    returns-then-awaits
+    remainder_begun-requires
+    returns)

@@ -3,14 +3,14 @@ use Rattle.std.proofs.Common.{rules}
 use Rattle.sequence_writer.proofs.second_digit.Statement.{statement}
 use Rattle.sequence_writer.proofs.second_digit.Tie as tie
 
-wrapping-add-u8-requires : tie.Need-wrapping-add-u8-requires
-wrapping-add-u8-requires c κs = search rules
+wrapping_add_u8-requires : tie.Need-wrapping_add_u8-requires
+wrapping_add_u8-requires c κs = search rules
 
 capital-requires : tie.Need-capital-requires
 capital-requires c κs = search rules
 
 returns : tie.Need-returns
-returns c = rw (c.capital.ensures, c.before.before.wrapping-add-u8.ensures)
+returns c = rw (c.capital.ensures, c.before.before.wrapping_add_u8.ensures)
 
 pub second_digit_spec : {M : Type 1} → statement M
-second_digit_spec = tie.close (tie.spec wrapping-add-u8-requires capital-requires returns)
+second_digit_spec = tie.close (tie.spec wrapping_add_u8-requires capital-requires returns)

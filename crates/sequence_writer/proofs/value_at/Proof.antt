@@ -4,14 +4,14 @@ use lib.ListN.{get_or-eq_default}
 use Rattle.sequence_writer.proofs.value_at.Statement.{statement}
 use Rattle.sequence_writer.proofs.value_at.Tie as tie
 
-shared-slice-read-result : tie.Need-shared-slice-read-result
-shared-slice-read-result c = search rules
+bounds-values-at : tie.Need-bounds-values-at
+bounds-values-at c = search rules
+
+returns-then-at-values : tie.Need-returns-then-at-values
+returns-then-at-values c = search rules
 
 returns : tie.Need-returns
-returns c = search rules
-
-returns-2 : tie.Need-returns-2
-returns-2 c = sym (get_or-eq_default c.before.args.values.now 0 c.if1.false)
+returns c = sym (get_or-eq_default c.before.args.values.now 0 c.if-at-values.false)
 
 pub value_at_spec : {M : Type 1} → statement M
-value_at_spec = tie.close (tie.spec shared-slice-read-result returns returns-2)
+value_at_spec = tie.close (tie.spec bounds-values-at returns-then-at-values returns)

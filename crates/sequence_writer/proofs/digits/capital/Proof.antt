@@ -4,22 +4,22 @@ use Rattle.sequence_writer.specs.Layout.{capital}
 use Rattle.sequence_writer.proofs.digits.capital.Statement.{statement}
 use Rattle.sequence_writer.proofs.digits.capital.Tie as tie
 
-add-result : tie.Need-overflow-add-result
-add-result c = search rules
+overflow_add-result : tie.Need-overflow_add-result
+overflow_add-result c = search rules
+
+returns-then-digit-lt10 : tie.Need-returns-then-digit-lt10
+unfolding capital
+returns-then-digit-lt10 c = rw (lt-ltb _ _ c.if-digit-lt10.true)
+
+overflow_sub-result : tie.Need-overflow_sub-result
+overflow_sub-result c = search rules
+
+overflow_add-result-2 : tie.Need-overflow_add-result-2
+overflow_add-result-2 c = search rules
 
 returns : tie.Need-returns
 unfolding capital
-returns c = rw (lt-ltb _ _ c.if1.true)
-
-sub-result : tie.Need-overflow-sub-result
-sub-result c = search rules
-
-add-result-2 : tie.Need-overflow-add-result-2
-add-result-2 c = search rules
-
-returns-2 : tie.Need-returns-2
-unfolding capital
-returns-2 c = rw (le-ltb _ _ c.if1.false)
+returns c = rw (le-ltb _ _ c.if-digit-lt10.false)
 
 pub capital_spec : {M : Type 1} → statement M
-capital_spec = tie.close (tie.spec add-result returns sub-result add-result-2 returns-2)
+capital_spec = tie.close (tie.spec overflow_add-result returns-then-digit-lt10 overflow_sub-result overflow_add-result-2 returns)
