@@ -1,5 +1,4 @@
-// Test sequences as texts: read, written, and run through the codec. A program of this kit has no status, so this is a library
-// that answers one.
+// Test sequences as texts: read, written, and run through the codec. This is a library that answers the program's status.
 //
 // What the words ask is the crate `command_line`, how files are opened and read is `streams`, what a text is is `sequence`. One
 // loop goes over a stream, HOMING or standard input (work.rt), in pieces: its values are taken out (pieces.rt), go through the
@@ -19,14 +18,14 @@ use command_line::status::{WRONG_WORDS, status_of};
 use command_line::{pages, sequences};
 
 // Does what the program's words ask, and answers its status
-pub fn run() -> i32 {
-    let page = pages::answer(Program::Sequences);
+pub fn run(rt: &HostRuntime) -> u8 {
+    let page = pages::answer(rt, Program::Sequences);
     if let Paged::Ended(status) = page {
         return status;
     }
-    let task = sequences::read();
+    let task = sequences::read(rt);
     if !task.good {
         return WRONG_WORDS;
     }
-    status_of(work::perform(task))
+    status_of(work::perform(rt, task))
 }

@@ -3,8 +3,10 @@ ghost use Rattle.std.specs.Prelude.{◌≡◌, length};
 
 use crate::streaming::Way;
 use command_line::program::{Program, say_unwritten};
-use libc::STDOUT_FILENO;
 use sequence_writer::Writer;
+use std::io::Error;
+use streams::files::Stream;
+use streams::writing;
 use text::within;
 
 // Characters of a piece's text: two of each of 4,096 values, a line feed behind 32 of them, and to spare
@@ -17,33 +19,33 @@ pub struct Output {
     pub writer: Writer,
 }
 
-pub fn put(way: Way, from: Writer, values: &[u8]) -> Output {
+pub fn put(rt: &HostRuntime, way: Way, from: Writer, values: &[u8]) -> Output {
     match way {
         Way::HomeEncoder | Way::HomeDecoder => Output {
             good: true,
             writer: from,
         },
         Way::Read => Output {
-            good: put_octets(values),
+            good: put_octets(rt, values),
             writer: from,
         },
-        Way::Write | Way::Encode | Way::Decode => put_text(from, values),
+        Way::Write | Way::Encode | Way::Decode => put_text(rt, from, values),
     }
 }
 
 // The remainder, and what is left of the line before it
-pub fn put_end(way: Way, from: Writer) -> bool {
-    let put = put(way, sequence_writer::end(from), b"");
+pub fn put_end(rt: &HostRuntime, way: Way, from: Writer) -> bool {
+    let put = put(rt, way, sequence_writer::end(from), b"");
     put.good
 }
 
-fn put_text(from: Writer, values: &[u8]) -> Output {
+fn put_text(rt: &HostRuntime, from: Writer, values: &[u8]) -> Output {
     let mut text = room();
     let answer = sequence_writer::write(from, values, &mut text);
     let n = within(answer.written, &text);
     let behind = answer.writer;
     Output {
-        good: put_octets(&text[..n]),
+        good: put_octets(rt, &text[..n]),
         writer: behind,
     }
 }
@@ -54,19 +56,22 @@ fn room() -> [u8; ROOM]
     [0; ROOM]
 }
 
-fn put_octets(octets: &[u8]) -> bool {
-    let written = io::write_all(STDOUT_FILENO, octets);
-    if !written {
-        say_unwritten(Program::Sequences);
+fn put_octets(rt: &HostRuntime, octets: &[u8]) -> bool {
+    is_written(writing::put(rt, &Stream::Standard, octets))
+}
+
+// Says where it is not.
+fn is_written(answer: Result<(), Error>) -> bool {
+    match answer {
+        Ok(()) => true,
+        Err(error) => {
+            say_unwritten(Program::Sequences, error);
+            false
+        }
     }
-    written
 }
 
 // What a file system holds back it may refuse only now.
-pub fn closed() -> bool {
-    let good = 0 <= libc::close(STDOUT_FILENO);
-    if !good {
-        say_unwritten(Program::Sequences);
-    }
-    good
+pub fn closed(rt: &HostRuntime) -> bool {
+    is_written(writing::settle(rt, &Stream::Standard))
 }

@@ -44,20 +44,20 @@ pub fn first_turn(codec: Codec) -> Turn
     }
 }
 
-pub fn passed(way: Way, turn: Turn, piece: &mut [u8]) -> Turn
+pub fn passed(rt: &HostRuntime, way: Way, turn: Turn, piece: &mut [u8]) -> Turn
     requires { Ready turn.codec }
     ensures { Ready result.codec }
 {
     if is_text(way) {
-        return text_passed(way, turn, piece);
+        return text_passed(rt, way, turn, piece);
     }
     let from = turn.reader;
-    let done = work_on(way, turn, piece);
+    let done = work_on(rt, way, turn, piece);
     next_turn(from, done, done.good)
 }
 
 // A value for each character at most, so there is room for all.
-fn text_passed(way: Way, turn: Turn, piece: &[u8]) -> Turn
+fn text_passed(rt: &HostRuntime, way: Way, turn: Turn, piece: &[u8]) -> Turn
     requires { Ready turn.codec }
     ensures { Ready result.codec }
 {
@@ -65,7 +65,7 @@ fn text_passed(way: Way, turn: Turn, piece: &[u8]) -> Turn
     let from = turn.reader;
     let answer = reader::read(from, piece, &mut values);
     let n = within(answer.written, &values);
-    let done = work_on(way, turn, &mut values[..n]);
+    let done = work_on(rt, way, turn, &mut values[..n]);
     let whole = done.count == n;
     if done.good & !whole {
         say_codeword(place_at(from, piece, done.count));
@@ -74,7 +74,7 @@ fn text_passed(way: Way, turn: Turn, piece: &[u8]) -> Turn
     next_turn(behind, done, done.good & whole)
 }
 
-fn work_on(way: Way, turn: Turn, values: &mut [u8]) -> Worked
+fn work_on(rt: &HostRuntime, way: Way, turn: Turn, values: &mut [u8]) -> Worked
     requires { Ready turn.codec }
     ensures { Ready result.codec }
 {
@@ -83,7 +83,7 @@ fn work_on(way: Way, turn: Turn, values: &mut [u8]) -> Worked
     let n = within(made.count, values);
     let codec = made.codec;
     let from = turn.writer;
-    let put = put(way, from, &values[..n]);
+    let put = put(rt, way, from, &values[..n]);
     let writer = put.writer;
     Worked {
         count: n,

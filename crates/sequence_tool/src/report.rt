@@ -1,27 +1,26 @@
 // What is said on standard error of a text: what is wrong, and where.
 use command_line::program::{Program, said_by};
 use command_line::wrong::worded;
-use libc::STDERR_FILENO;
 use sequence::reader::{Refusal, Verdict};
-use text::Line;
+use text::{Line, STDERR};
 
 // Answers whether the text is sound; the word is HOMING's place, 0 for standard input.
-pub fn is_sound(word: usize, verdict: Verdict) -> bool {
+pub fn is_sound(rt: &HostRuntime, word: usize, verdict: Verdict) -> bool {
     match verdict {
         Verdict::Sound => true,
         Verdict::Refused(why, place) => {
-            say_placed(refused(text_named(word), why), place);
+            say_placed(refused(text_named(rt, word), why), place);
             false
         }
     }
 }
 
-fn text_named(word: usize) -> Line {
+fn text_named(rt: &HostRuntime, word: usize) -> Line {
     let line = said_by(Program::Sequences);
     if word == 0 {
         return line;
     }
-    worded(line.octet(b'\''), word).text(b"': ")
+    worded(rt, line.octet(b'\''), word).text(b"': ")
 }
 
 fn refused(line: Line, why: Refusal) -> Line {
@@ -41,8 +40,5 @@ pub fn say_codeword(place: u64) {
 }
 
 fn say_placed(line: Line, place: u64) {
-    line.text(b" at ")
-        .number(place)
-        .octet(b'\n')
-        .write(STDERR_FILENO);
+    line.text(b" at ").number(place).octet(b'\n').write(STDERR);
 }

@@ -1,7 +1,7 @@
 // A stream, and what is done with its values.
 use command_line::program::Program;
 use command_line::sequences::Command;
-use libc::STDIN_FILENO;
+use streams::files;
 use streams::reading::{Name, Source};
 
 #[derive(Clone, Copy)]
@@ -15,7 +15,7 @@ pub enum Way {
 }
 
 // The word is HOMING's place, 0 for standard input
-#[derive(Clone, Copy)]
+#[derive(Drop)]
 pub struct Stream {
     pub way: Way,
     pub source: Source,
@@ -25,7 +25,7 @@ pub struct Stream {
 pub fn standard(command: Command) -> Stream {
     let source = Source {
         program: Program::Sequences,
-        fd: STDIN_FILENO,
+        stream: files::Stream::Standard,
         name: Name::Input,
     };
     Stream {
@@ -44,10 +44,10 @@ fn way_of(command: Command) -> Way {
     }
 }
 
-pub fn homing(command: Command, fd: i32, word: usize) -> Stream {
+pub fn homing(command: Command, stream: files::Stream, word: usize) -> Stream {
     let source = Source {
         program: Program::Sequences,
-        fd,
+        stream,
         name: Name::Homing,
     };
     Stream {

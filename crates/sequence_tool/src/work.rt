@@ -9,8 +9,8 @@ use crate::report::is_sound;
 use crate::streaming::{Stream, homing, is_text, standard};
 use command_line::program::Program;
 use command_line::sequences::Task;
-use libc::STDIN_FILENO;
 use sequence::reader;
+use streams::files;
 use streams::files::{hold_standard_streams, opened};
 use streams::reading::read_once;
 
@@ -22,20 +22,21 @@ struct Ran {
 }
 
 // Answers whether all was done.
-pub fn perform(task: Task) -> bool {
-    hold_standard_streams();
-    let homed = home(task);
+pub fn perform(rt: &HostRuntime, task: Task) -> bool {
+    hold_standard_streams(rt);
+    let homed = home(rt, task);
     let codec = homed.codec;
     let command = task.command;
     if !homed.good {
         return false;
     }
-    let ran = run(standard(command), codec);
-    ran.good & closed()
+    let stream = standard(command);
+    let ran = run(rt, &stream, codec);
+    ran.good & closed(rt)
 }
 
 // From reset, and with HOMING where that is asked for
-fn home(task: Task) -> Ran
+fn home(rt: &HostRuntime, task: Task) -> Ran
     ensures { Ready result.codec }
 {
     let coding = task.coding;
@@ -43,55 +44,54 @@ fn home(task: Task) -> Ran
     if task.homing == 0 {
         return Ran { good: true, codec };
     }
-    let fd = opened(Program::Sequences, task.homing, STDIN_FILENO, false);
-    if fd < 0 {
+    let input = files::Stream::Standard;
+    let source = opened(rt, Program::Sequences, task.homing, input, false);
+    if !source.is_there() {
         return Ran { good: false, codec };
     }
     let command = task.command;
-    let ran = run(homing(command, fd, task.homing), codec);
-    libc::close(fd);
-    ran
+    let stream = homing(command, source, task.homing);
+    run(rt, &stream, codec)
 }
 
-fn run(stream: Stream, codec: Codec) -> Ran
+fn run(rt: &HostRuntime, stream: &Stream, codec: Codec) -> Ran
     requires { Ready codec }
     ensures { Ready result.codec }
 {
-    let turn = run_all(stream, first_turn(codec));
+    let turn = run_all(rt, stream, first_turn(codec));
     let behind = turn.codec;
     Ran {
-        good: ended(stream, turn),
+        good: ended(rt, stream, turn),
         codec: behind,
     }
 }
 
 // A proved loop has to end, and nothing says that a stream does: it ends before a piece whose number no run reaches.
-fn run_all(stream: Stream, from: Turn) -> Turn
+fn run_all(rt: &HostRuntime, stream: &Stream, from: Turn) -> Turn
     requires { Ready from.codec }
     ensures { Ready result.codec }
 {
     let mut turn = from;
     let mut pieces = 0;
     while pieces < u64::MAX && turn.more {
-        turn = next(stream, turn);
+        turn = next(rt, stream, turn);
         pieces += 1;
     }
     turn
 }
 
-fn next(stream: Stream, turn: Turn) -> Turn
+fn next(rt: &HostRuntime, stream: &Stream, turn: Turn) -> Turn
     requires { Ready turn.codec }
     ensures { Ready result.codec }
 {
     let mut piece = io::buffer();
-    let source = stream.source;
     let way = stream.way;
-    let found = read_once(source, &mut piece);
+    let found = read_once(rt, &stream.source, &mut piece);
     let n = found.count;
     if (n == 0) | !found.good {
         return stopped(turn, found.good);
     }
-    passed(way, turn, &mut piece[..n])
+    passed(rt, way, turn, &mut piece[..n])
 }
 
 // The stream has ended, or cannot be read.
@@ -107,15 +107,15 @@ fn stopped(turn: Turn, good: bool) -> Turn
 }
 
 // Answers whether all was well up to the end, and what is left was written.
-fn ended(stream: Stream, turn: Turn) -> bool {
+fn ended(rt: &HostRuntime, stream: &Stream, turn: Turn) -> bool {
     let way = stream.way;
     let reader = turn.reader;
     let writer = turn.writer;
     if !turn.good {
         return false;
     }
-    if is_text(way) && !is_sound(stream.word, reader::end(reader)) {
+    if is_text(way) && !is_sound(rt, stream.word, reader::end(reader)) {
         return false;
     }
-    put_end(way, writer)
+    put_end(rt, way, writer)
 }
