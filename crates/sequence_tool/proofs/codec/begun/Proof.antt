@@ -5,8 +5,8 @@ use Rattle.quantizer.proofs.Pairs.{pair_says}
 use Rattle.sequence_tool.proofs.codec.begun.Statement.{statement}
 use Rattle.sequence_tool.proofs.codec.begun.Tie as tie
 
-reset-at-requires : tie.Need-reset-at-requires
-reset-at-requires c κs = pair_says _ _ (sym c.before.is-pair.ensures ∙ c.if1.true)
+reset_at-requires : tie.Need-reset_at-requires
+reset_at-requires c κs = pair_says _ _ (sym c.before.is_pair.ensures ∙ c.if-is_pair.true)
 
 pub begun_spec : {M : Type 1} → statement M
-begun_spec = tie.close (tie.spec (search rules) reset-at-requires (λ c. search rules) (search rules) (λ c. search rules))
+begun_spec = tie.close (tie.spec (search rules) reset_at-requires (λ c. search rules) (search rules) (λ c. search rules))

@@ -5,11 +5,11 @@ use Rattle.quantizer.proofs.Halves.{halves}
 use Rattle.sequence_tool.proofs.codec.count_codewords.Statement.{statement}
 use Rattle.sequence_tool.proofs.codec.count_codewords.Tie as tie
 
-mul-result : tie.Need-overflow-mul-result
-mul-result c = omega (arith, halves c.before.requires)
+overflow_mul-result : tie.Need-overflow_mul-result
+overflow_mul-result c = omega (arith, halves c.before.requires)
 
 returns : tie.Need-returns
 returns c = omega (arith, halves c.before.requires)
 
 pub count_codewords_spec : {M : Type 1} → statement M
-count_codewords_spec = tie.close (tie.spec (search rules) mul-result returns)
+count_codewords_spec = tie.close (tie.spec (search rules) overflow_mul-result returns)

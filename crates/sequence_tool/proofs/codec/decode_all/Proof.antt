@@ -11,78 +11,78 @@ use Rattle.sequence_tool.proofs.Keeps.{codeword_below}
 use Rattle.sequence_tool.proofs.codec.decode_all.Statement.{statement}
 use Rattle.sequence_tool.proofs.codec.decode_all.Tie as tie
 
-abbrev invariant_loop : tie.invariant_loop
-invariant_loop codec values₀ codewords m₀ i₀ values m i = (i ≤ length values) × (length values ≡ length values₀) × MemoryInRange m
+abbrev invariant-loop-i : tie.invariant-loop-i
+invariant-loop-i codec values₀ codewords m₀ i₀ values m i = (i ≤ length values) × (length values ≡ length values₀) × MemoryInRange m
 
-abbrev decreases_loop : tie.decreases_loop
-decreases_loop codec values₀ codewords m₀ i₀ values m i = length values - i
+abbrev decreases-loop-i : tie.decreases-loop-i
+decreases-loop-i codec values₀ codewords m₀ i₀ values m i = length values - i
 
-count-codewords-requires : tie.Need-count-codewords-requires invariant_loop decreases_loop
-count-codewords-requires c κs = pair_width c.before.requires.pair
+count_codewords-codewords-requires : tie.Need-count_codewords-codewords-requires invariant-loop-i decreases-loop-i
+count_codewords-codewords-requires c κs = pair_width c.before.requires.pair
 
-loop-holds : tie.Need-loop-init invariant_loop decreases_loop
-loop-holds c = (omega arith, omega arith, c.before.before.before.requires.decoder)
+loop-i-init : tie.Need-loop-i-init invariant-loop-i decreases-loop-i
+loop-i-init c = (omega arith, omega arith, c.before.before.before.requires.decoder)
 
-slice-read-codeword : tie.Need-slice-read-codeword invariant_loop decreases_loop
-slice-read-codeword c = omega arith
+bounds-values-i : tie.Need-bounds-values-i invariant-loop-i decreases-loop-i
+bounds-values-i c = omega arith
 
-decoded-requires : tie.Need-decoded-requires invariant_loop decreases_loop
-decoded-requires c κs = (c.before.before.before.before.before.before.before.requires, c.before.before.before.loop.invariant.2)
+decoded-requires : tie.Need-decoded-requires invariant-loop-i decreases-loop-i
+decoded-requires c κs = (c.before.before.before.before.before.before.before.requires, c.before.before.before.loop-i.invariant.2)
 
-same_length : tie.Need-same-length invariant_loop decreases_loop
-same_length c = omega arith
+shape_of-values-then-codewords-codeword : tie.Need-shape_of-values-then-codewords-codeword invariant-loop-i decreases-loop-i
+shape_of-values-then-codewords-codeword c = omega arith
 
-returns : tie.Need-returns invariant_loop decreases_loop
-returns c = c.decoded.ensures
+returns-then-codewords-codeword : tie.Need-returns-then-codewords-codeword invariant-loop-i decreases-loop-i
+returns-then-codewords-codeword c = c.decoded.ensures
 
-decode-byte-requires : tie.Need-decode-byte-requires invariant_loop decreases_loop
-decode-byte-requires c κs =
+decode_byte-p-requires : tie.Need-decode_byte-p-requires invariant-loop-i decreases-loop-i
+decode_byte-p-requires c κs =
     let at-loop = c.before.before.before in
     let pair = at-loop.before.before.before.before.requires.pair in
-    (at-loop.loop.invariant.2, pair, codeword_below pair at-loop.before.before.count-codewords.ensures c.if1.false)
+    (at-loop.loop-i.invariant.2, pair, codeword_below pair at-loop.before.before.count_codewords-codewords.ensures c.if-codewords-codeword.false)
 
-slice-write-values : tie.Need-slice-write-values invariant_loop decreases_loop
-slice-write-values c = omega arith
+bounds-values-i-in-loop-i : tie.Need-bounds-values-i-in-loop-i invariant-loop-i decreases-loop-i
+bounds-values-i-in-loop-i c = omega arith
 
-add-i : tie.Need-overflow-add-i invariant_loop decreases_loop
-add-i c = omega arith
+overflow_add-i : tie.Need-overflow_add-i invariant-loop-i decreases-loop-i
+overflow_add-i c = omega arith
 
-loop-less : tie.Need-loop-smaller invariant_loop decreases_loop
-loop-less c = simp (length-set) (omega arith)
+loop-i-smaller : tie.Need-loop-i-smaller invariant-loop-i decreases-loop-i
+loop-i-smaller c = simp (length-set) (omega arith)
 
-loop-again : tie.Need-loop-preserved invariant_loop decreases_loop
-loop-again c =
+loop-i-preserved : tie.Need-loop-i-preserved invariant-loop-i decreases-loop-i
+loop-i-preserved c =
     let at-loop = c.before.before.before.before.before in
     let pair = at-loop.before.before.before.before.requires.pair in
-    let code = codeword_below pair at-loop.before.before.count-codewords.ensures c.before.before.if1.false in
-    (simp (length-set) (omega arith), simp (length-set) (omega arith), rw c.before.decode-byte.ensures (play_in_range _ pair at-loop.loop.invariant.2 _ code))
+    let code = codeword_below pair at-loop.before.before.count_codewords-codewords.ensures c.before.before.if-codewords-codeword.false in
+    (simp (length-set) (omega arith), simp (length-set) (omega arith), rw c.before.decode_byte-p.ensures (play_in_range _ pair at-loop.loop-i.invariant.2 _ code))
 
-decoded-requires-2 : tie.Need-decoded-requires-2 invariant_loop decreases_loop
-decoded-requires-2 c κs = (c.before.before.before.before.before.requires, c.before.loop.invariant.2)
+decoded-requires-2 : tie.Need-decoded-requires-2 invariant-loop-i decreases-loop-i
+decoded-requires-2 c κs = (c.before.before.before.before.before.requires, c.before.loop-i.invariant.2)
 
-same-length-2 : tie.Need-same-length-2 invariant_loop decreases_loop
-same-length-2 c = omega arith
+shape_of-values : tie.Need-shape_of-values invariant-loop-i decreases-loop-i
+shape_of-values c = omega arith
 
-returns-2 : tie.Need-returns-2 invariant_loop decreases_loop
-returns-2 c = c.decoded2.ensures
+returns : tie.Need-returns invariant-loop-i decreases-loop-i
+returns c = c.decoded-2.ensures
 
 pub decode_all_spec : {M : Type 1} → statement M
 decode_all_spec =
     tie.close
     (tie.spec
-    invariant_loop
-    decreases_loop
-    count-codewords-requires
-    loop-holds
-    slice-read-codeword
+    invariant-loop-i
+    decreases-loop-i
+    count_codewords-codewords-requires
+    loop-i-init
+    bounds-values-i
     decoded-requires
-    same_length
-    returns
-    decode-byte-requires
-    slice-write-values
-    add-i
-    loop-less
-    loop-again
+    shape_of-values-then-codewords-codeword
+    returns-then-codewords-codeword
+    decode_byte-p-requires
+    bounds-values-i-in-loop-i
+    overflow_add-i
+    loop-i-smaller
+    loop-i-preserved
     decoded-requires-2
-    same-length-2
-    returns-2)
+    shape_of-values
+    returns)

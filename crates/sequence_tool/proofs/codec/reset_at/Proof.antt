@@ -7,7 +7,7 @@ use Rattle.sequence_tool.proofs.codec.reset_at.Tie as tie
 
 returns : tie.Need-returns
 returns c =
-    let kept : MemoryInRange c.reset-memory.result = rw c.reset-memory.ensures reset_memory_in_range in
+    let kept : MemoryInRange c.reset_memory-m.result = rw c.reset_memory-m.ensures reset_memory_in_range in
     record { pair = c.before.requires; encoder = kept; decoder = kept }
 
 pub reset_at_spec : {M : Type 1} → statement M

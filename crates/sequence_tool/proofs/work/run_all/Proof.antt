@@ -5,43 +5,43 @@ use Rattle.sequence_tool.specs.Ready.{Ready}
 use Rattle.sequence_tool.proofs.work.run_all.Statement.{statement}
 use Rattle.sequence_tool.proofs.work.run_all.Tie as tie
 
-abbrev invariant_loop : tie.invariant_loop
-invariant_loop stream turn₀ pieces₀ turn pieces = Ready turn.codec
+abbrev invariant-loop-pieces : tie.invariant-loop-pieces
+invariant-loop-pieces rt stream turn₀ pieces₀ turn pieces = Ready turn.codec
 
-abbrev decreases_loop : tie.decreases_loop
-decreases_loop stream turn₀ pieces₀ turn pieces = 2 ^ 64 - pieces
+abbrev decreases-loop-pieces : tie.decreases-loop-pieces
+decreases-loop-pieces rt stream turn₀ pieces₀ turn pieces = 2 ^ 64 - pieces
 
-loop-holds : tie.Need-loop-init invariant_loop decreases_loop
-loop-holds c = c.requires
+loop-pieces-init : tie.Need-loop-pieces-init invariant-loop-pieces decreases-loop-pieces
+loop-pieces-init c = c.requires
 
-next-requires : tie.Need-next-requires invariant_loop decreases_loop
-next-requires c κs = c.before.before.loop.invariant
+next-turn-requires : tie.Need-next-turn-requires invariant-loop-pieces decreases-loop-pieces
+next-turn-requires c κs = c.before.before.loop-pieces.invariant
 
-add-pieces : tie.Need-overflow-add-pieces invariant_loop decreases_loop
-add-pieces c = omega arith
+overflow_add-pieces : tie.Need-overflow_add-pieces invariant-loop-pieces decreases-loop-pieces
+overflow_add-pieces c = omega arith
 
-loop-less : tie.Need-loop-smaller invariant_loop decreases_loop
-loop-less c = omega arith
+loop-pieces-smaller : tie.Need-loop-pieces-smaller invariant-loop-pieces decreases-loop-pieces
+loop-pieces-smaller c = omega arith
 
-loop-again : tie.Need-loop-preserved invariant_loop decreases_loop
-loop-again c = c.next.ensures
+loop-pieces-preserved : tie.Need-loop-pieces-preserved invariant-loop-pieces decreases-loop-pieces
+loop-pieces-preserved c = c.next-turn.ensures
 
-returns : tie.Need-returns invariant_loop decreases_loop
-returns c = c.before.before.loop.invariant
+returns-else-turn : tie.Need-returns-else-turn invariant-loop-pieces decreases-loop-pieces
+returns-else-turn c = c.before.before.loop-pieces.invariant
 
-returns-2 : tie.Need-returns-2 invariant_loop decreases_loop
-returns-2 c = c.before.loop.invariant
+returns-after-loop-pieces : tie.Need-returns-after-loop-pieces invariant-loop-pieces decreases-loop-pieces
+returns-after-loop-pieces c = c.before.loop-pieces.invariant
 
 pub run_all_spec : {M : Type 1} → statement M
 run_all_spec =
     tie.close
     (tie.spec
-    invariant_loop
-    decreases_loop
-    loop-holds
-    next-requires
-    add-pieces
-    loop-less
-    loop-again
-    returns
-    returns-2)
+    invariant-loop-pieces
+    decreases-loop-pieces
+    loop-pieces-init
+    next-turn-requires
+    overflow_add-pieces
+    loop-pieces-smaller
+    loop-pieces-preserved
+    returns-else-turn
+    returns-after-loop-pieces)
