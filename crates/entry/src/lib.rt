@@ -5,7 +5,6 @@ pub fn parchfennel(rt: &HostRuntime) -> u8 {
     tool::run(rt)
 }
 
-#[unsafe(no_mangle)]
-pub extern "C" fn sequences() -> i32 {
-    sequence_tool::run()
+pub fn sequences(rt: &HostRuntime) -> u8 {
+    sequence_tool::run(rt)
 }
