@@ -1,5 +1,5 @@
 //! pairs [NAME...]: tries the stored pairs, all or those named, in a copy of the repository, and prints what came of each. Ends
-//! with 1 where one was proved and no run noticed it. Each takes minutes: it is run by hand, after `rt check`.
+//! with 1 where one was proved and no run noticed it. Each takes minutes: it is run by hand, once `rt check` has proved the programs.
 
 use pairs::outcome::Outcome;
 use pairs::pair::{read_all, Pair};
