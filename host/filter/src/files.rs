@@ -3,9 +3,10 @@
 use crate::stop::Stop;
 use crate::words::Word;
 use std::ffi::OsStr;
-use std::fs::File;
+use std::fs::{self, File};
 use std::io::{self, BufReader, ErrorKind, Read, Write};
 use std::os::unix::ffi::OsStrExt;
+use std::path::Path;
 
 pub struct Source {
     /// What it is called once it is open.
@@ -13,6 +14,26 @@ pub struct Source {
     from: Box<dyn Read>,
     /// What to open where this one does not wait for its octets.
     again: Option<&'static str>,
+}
+
+/// The number of octets that are no text.
+const EILSEQ: i32 = 84;
+/// And that of a name that is too long, where the longest path has so many octets.
+const ENAMETOOLONG: i32 = 36;
+const LONGEST: usize = 4095;
+
+/// The proved programs open by text alone. A name that is no UTF-8 they refuse as they would refuse its folder, and else as no text.
+fn said(word: &[u8]) -> io::Result<()> {
+    if std::str::from_utf8(word).is_ok() {
+        return Ok(());
+    }
+    if word.len() > LONGEST {
+        return Err(io::Error::from_raw_os_error(ENAMETOOLONG));
+    }
+    let folder = Path::new(OsStr::from_bytes(word)).parent();
+    let folder = folder.filter(|folder| !folder.as_os_str().is_empty());
+    fs::read_dir(folder.unwrap_or(Path::new(".")))?;
+    Err(io::Error::from_raw_os_error(EILSEQ))
 }
 
 /// Octets that are read at a time where all are wanted.
@@ -28,7 +49,7 @@ impl Source {
     }
 
     pub fn file(called: &'static str, word: &Word) -> Result<Source, Stop> {
-        let file = File::open(OsStr::from_bytes(word));
+        let file = File::open(OsStr::from_bytes(word)).and_then(|file| said(word).map(|()| file));
         let from = file.map_err(|error| Stop::unopened(word, &error))?;
         Ok(Source {
             called,
@@ -106,7 +127,7 @@ impl Sink {
 
     /// The file is emptied, or made.
     pub fn file(called: &'static str, word: &Word) -> Result<Sink, Stop> {
-        let file = File::create(OsStr::from_bytes(word));
+        let file = said(word).and_then(|()| File::create(OsStr::from_bytes(word)));
         let to = file.map_err(|error| Stop::unopened(word, &error))?;
         Ok(Sink::of(called, Box::new(to)))
     }
@@ -184,6 +205,15 @@ mod tests {
         let due = Some("cannot open 'no/such': No such file or directory".to_string());
         assert_eq!(Source::file("IN", &word).err().map(line), due);
         assert_eq!(Sink::file("OUT", &word).err().map(line), due);
+    }
+
+    #[test]
+    fn a_name_that_is_no_text_is_not_opened() {
+        let due = "cannot open '\u{fffd}': Invalid or incomplete multibyte or wide character";
+        let lossy = |stop: Stop| String::from_utf8_lossy(&stop.0).into_owned();
+        assert_eq!(Sink::file("OUT", &vec![0xFF]).err().map(lossy), Some(due.to_string()));
+        let missing = "cannot open '\u{fffd}': No such file or directory";
+        assert_eq!(Source::file("IN", &vec![0xFF]).err().map(lossy), Some(missing.to_string()));
     }
 
     #[test]

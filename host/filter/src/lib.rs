@@ -4,7 +4,6 @@
 pub mod files;
 pub mod line;
 pub mod pair;
-mod pipe;
 pub mod program;
 pub mod stop;
 pub mod words;

@@ -2,7 +2,6 @@
 
 use crate::files::Sink;
 use crate::line::{put, say, Line};
-use crate::pipe;
 use crate::words::{Word, Words, COUNTED};
 use std::env;
 use std::os::unix::ffi::OsStringExt;
@@ -33,7 +32,6 @@ impl Program {
         read: impl FnOnce(&mut Words) -> Result<Job, Line>,
         run: impl FnOnce(&Job) -> Vec<Line>,
     ) -> ExitCode {
-        pipe::end_by_signal();
         match parse(&words(), read) {
             Ok(Call::Help) => self.ended(page(self.help)),
             Ok(Call::Version) => self.ended(page(&version(self.name))),

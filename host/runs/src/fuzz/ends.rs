@@ -7,7 +7,6 @@ use crate::run::{Done, Files, Given};
 use std::io::{self, Write};
 use std::os::fd::{AsRawFd, OwnedFd};
 use std::os::unix::net::UnixStream;
-use std::os::unix::process::ExitStatusExt;
 use std::path;
 use std::process::{Child, Stdio};
 use std::sync::mpsc::channel;
@@ -23,7 +22,6 @@ extern "C" {
 const F_GETFL: i32 = 3;
 const F_SETFL: i32 = 4;
 const O_NONBLOCK: i32 = 0o4000;
-const SIGPIPE: i32 = 13;
 
 /// What is written at a time, and how long nothing is.
 const PIECE: usize = 7;
@@ -64,9 +62,13 @@ impl Odd {
             let how = format!("{}, with a pipe that does not wait", given.call());
             lines.extend(told(tool, &how, &due, &found));
         }
-        if !unread(tool, &self.unread)? {
-            lines.push(named(tool, "it is not ended by SIGPIPE"));
-        }
+        let found = unread(tool, &self.unread)?;
+        let due = Done {
+            said: format!("{}: cannot write standard output: Broken pipe\n", self.name).into(),
+            status: Some(1),
+            ..Done::default()
+        };
+        lines.extend(told(tool, "output that nobody reads", &due, &found));
         for redirected in &self.redirected {
             let (due, found) = by_shell(tool, redirected)?;
             let how = format!("{} {}", redirected.given.call(), redirected.how);
@@ -183,8 +185,8 @@ fn by_shell(tool: &Tool, redirected: &Redirected) -> Result<(Done, Done), String
     Ok((due, perform(&other, &redirected.given)?))
 }
 
-/// Whether the program is ended by SIGPIPE where nobody reads what it writes.
-fn unread(tool: &Tool, given: &Given) -> Result<bool, String> {
+/// What the program does where nobody reads what it writes. No signal ends it: the write fails as any other.
+fn unread(tool: &Tool, given: &Given) -> Result<Done, String> {
     let scratch = Scratch::with(&Files::new())?;
     let mut child = tool.start(scratch.folder(), &given.words, Stdio::piped())?;
     std::mem::drop(child.stdout.take());
@@ -193,7 +195,11 @@ fn unread(tool: &Tool, given: &Given) -> Result<bool, String> {
         let _ = pipe.write_all(&given.input);
     }
     let output = child.wait_with_output().map_err(|e| e.to_string())?;
-    Ok(output.status.signal() == Some(SIGPIPE))
+    Ok(Done {
+        said: output.stderr,
+        status: output.status.code(),
+        ..Done::default()
+    })
 }
 
 #[cfg(test)]
@@ -235,8 +241,9 @@ mod tests {
             input: vec![b'x'; 100_000],
             ..Given::default()
         };
-        assert_eq!(unread(&shell("exec cat"), &given), Ok(true));
-        assert_eq!(unread(&shell("cat >/dev/null"), &given), Ok(false));
+        let status = |line: &str| unread(&shell(line), &given).map(|done| done.status);
+        assert_eq!(status("exec cat"), Ok(None));
+        assert_eq!(status("cat >/dev/null"), Ok(Some(0)));
     }
 
     #[test]
