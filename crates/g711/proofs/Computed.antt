@@ -1,5 +1,5 @@
 -- A rule of both laws of companding, proved at every number below a bound by one test that antt computes, one number after the other.
--- LAW 0 is mu_law, and every other LAW reads as A_law, which is tested at LAW 1.
+-- LAW 0 is mu-law, and every other LAW reads as A-law, which is tested at LAW 1.
 use mathlib.Core.Path.{◌≡◌, subst, sym}
 use mathlib.Core.Bool.{Bool}
 use Prim.Native.Nat.{ℕ, zero, suc, ◌≤◌, ◌<◌}

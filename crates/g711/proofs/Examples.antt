@@ -5,7 +5,7 @@ use Rattle.g711.specs.G711.{decisions_mu, decisions_A}
 use Rattle.g711.specs.Compress.{reached, level_of, COMPRESS}
 use Rattle.g711.specs.Neighbour.{above, above_mu, above_T, below, below_mu, below_T}
 
--- Table 16, the rows with IS = 0 and then those with IS = 1. For A_law SR is twice IMAG, for mu_law it is IMAG
+-- Table 16, the rows with IS = 0 and then those with IS = 1. For A-law SR is twice IMAG, for mu-law it is IMAG
 pub table_16_A : map (λ SR. COMPRESS SR 1) (6 ∷ 4 ∷ 2 ∷ 0 ∷ 65534 ∷ 65532 ∷ 65530 ∷ [])
     ≡ 0b11010100 ∷ 0b11010100 ∷ 0b11010101 ∷ 0b11010101 ∷ 0b01010101 ∷ 0b01010101 ∷ 0b01010100 ∷ []
 unfolding COMPRESS level_of reached decisions_mu decisions_A

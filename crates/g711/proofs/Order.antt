@@ -23,7 +23,7 @@ abbrev pub rank_of : ℕ → ℕ → ℕ
 rank_of S LAW = rank (EXPAND S LAW)
 
 -- the place of a code word's level among those of its law, from the most negative on, and a code word that is at a place:
--- A_law has 256 places, and mu_law, whose zeros share one, 255, from 1 on
+-- A-law has 256 places, and mu-law, whose zeros share one, 255, from 1 on
 abbrev place_of : ℕ → ℕ → ℕ
 place_of S LAW =
     let T = S ** 85 in

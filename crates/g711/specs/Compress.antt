@@ -1,4 +1,4 @@
--- G.727, section 6.2.10: COMPRESS. LAW is 0 for mu_law and 1 for A_law.
+-- G.727, section 6.2.10: COMPRESS. LAW is 0 for mu-law and 1 for A-law.
 use Rattle.std.specs.Prelude.{◌&&◌, not, List, [], ◌∷◌, ℕ, ◌+◌, ◌-◌, ◌%◌, eqb, leb}
 use Rattle.words.specs.Notation.{◌when◌∣◌, ◌>>◌, ◌**◌}
 use Rattle.g711.specs.G711.{decisions_mu, decisions_A}
@@ -12,7 +12,7 @@ reached (x ∷ xs) m = (1 when leb x m ∣ 0) + reached xs m
 unfoldable pub level_of : List ℕ → ℕ → ℕ
 level_of decisions m = reached decisions m - 1
 
--- "Convert from uniform PCM to either A_law or mu_law PCM": SP. Table 16/G.727 shows the vicinity of the origin:
+-- "Convert from uniform PCM to either A-law or mu-law PCM": SP. Table 16/G.727 shows the vicinity of the origin:
 -- a magnitude at a decision value belongs to the level above it, but for A-law's negative half to the level below it.
 -- The rows that are printed for LAW = 1 are those of every LAW but 0
 unfoldable pub COMPRESS : ℕ → ℕ → ℕ

@@ -3,7 +3,7 @@
 -- A level n reaches from its own decision value to the next one's; level 127 is held up to infinity.
 use Rattle.std.specs.Prelude.{List, [], ◌∷◌, ℕ}
 
--- Tables 2a and 2b, mu_law, column 7
+-- Tables 2a and 2b, mu-law, column 7
 unfoldable pub outputs_mu : List ℕ
 outputs_mu =
     0 ∷ 2 ∷ 4 ∷ 6 ∷ 8 ∷ 10 ∷ 12 ∷ 14 ∷ 16 ∷ 18 ∷ 20 ∷ 22 ∷ 24 ∷ 26 ∷ 28 ∷ 30 ∷
@@ -15,7 +15,7 @@ outputs_mu =
     2079 ∷ 2207 ∷ 2335 ∷ 2463 ∷ 2591 ∷ 2719 ∷ 2847 ∷ 2975 ∷ 3103 ∷ 3231 ∷ 3359 ∷ 3487 ∷ 3615 ∷ 3743 ∷ 3871 ∷ 3999 ∷
     4191 ∷ 4447 ∷ 4703 ∷ 4959 ∷ 5215 ∷ 5471 ∷ 5727 ∷ 5983 ∷ 6239 ∷ 6495 ∷ 6751 ∷ 7007 ∷ 7263 ∷ 7519 ∷ 7775 ∷ 8031 ∷ []
 
--- Tables 1a and 1b, A_law, column 7
+-- Tables 1a and 1b, A-law, column 7
 unfoldable pub outputs_A : List ℕ
 outputs_A =
     1 ∷ 3 ∷ 5 ∷ 7 ∷ 9 ∷ 11 ∷ 13 ∷ 15 ∷ 17 ∷ 19 ∷ 21 ∷ 23 ∷ 25 ∷ 27 ∷ 29 ∷ 31 ∷
@@ -27,7 +27,7 @@ outputs_A =
     1056 ∷ 1120 ∷ 1184 ∷ 1248 ∷ 1312 ∷ 1376 ∷ 1440 ∷ 1504 ∷ 1568 ∷ 1632 ∷ 1696 ∷ 1760 ∷ 1824 ∷ 1888 ∷ 1952 ∷ 2016 ∷
     2112 ∷ 2240 ∷ 2368 ∷ 2496 ∷ 2624 ∷ 2752 ∷ 2880 ∷ 3008 ∷ 3136 ∷ 3264 ∷ 3392 ∷ 3520 ∷ 3648 ∷ 3776 ∷ 3904 ∷ 4032 ∷ []
 
--- Tables 2a and 2b, mu_law, column 5: 8,159, the virtual decision value behind the last, is not needed
+-- Tables 2a and 2b, mu-law, column 5: 8,159, the virtual decision value behind the last, is not needed
 unfoldable pub decisions_mu : List ℕ
 decisions_mu =
     0 ∷ 1 ∷ 3 ∷ 5 ∷ 7 ∷ 9 ∷ 11 ∷ 13 ∷ 15 ∷ 17 ∷ 19 ∷ 21 ∷ 23 ∷ 25 ∷ 27 ∷ 29 ∷
@@ -39,7 +39,7 @@ decisions_mu =
     2015 ∷ 2143 ∷ 2271 ∷ 2399 ∷ 2527 ∷ 2655 ∷ 2783 ∷ 2911 ∷ 3039 ∷ 3167 ∷ 3295 ∷ 3423 ∷ 3551 ∷ 3679 ∷ 3807 ∷ 3935 ∷
     4063 ∷ 4319 ∷ 4575 ∷ 4831 ∷ 5087 ∷ 5343 ∷ 5599 ∷ 5855 ∷ 6111 ∷ 6367 ∷ 6623 ∷ 6879 ∷ 7135 ∷ 7391 ∷ 7647 ∷ 7903 ∷ []
 
--- Tables 1a and 1b, A_law, column 5: 4,096, the virtual decision value behind the last, is not needed
+-- Tables 1a and 1b, A-law, column 5: 4,096, the virtual decision value behind the last, is not needed
 unfoldable pub decisions_A : List ℕ
 decisions_A =
     0 ∷ 2 ∷ 4 ∷ 6 ∷ 8 ∷ 10 ∷ 12 ∷ 14 ∷ 16 ∷ 18 ∷ 20 ∷ 22 ∷ 24 ∷ 26 ∷ 28 ∷ 30 ∷

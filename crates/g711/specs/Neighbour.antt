@@ -1,10 +1,10 @@
 -- G.727, section 6.2.10, SYNC: SP+, "the PCM code word that represents the next more positive PCM output level", and SP-, the next more
 -- negative one, each held at the end of the scale. mu-law's two zeros, FF and 7F, are one level, so neither steps to the other.
--- LAW is 0 for mu_law and 1 for A_law.
+-- LAW is 0 for mu-law and 1 for A-law.
 use Rattle.std.specs.Prelude.{ℕ, ◌+◌, ◌-◌, eqb, leb, ltb}
 use Rattle.words.specs.Notation.{◌when◌∣◌, ◌**◌}
 
--- mu_law: from the most negative level upwards code words rise from 00 to 7F, which is zero, and fall from FF, zero too, to 80
+-- mu-law: from the most negative level upwards code words rise from 00 to 7F, which is zero, and fall from FF, zero too, to 80
 unfoldable pub above_mu : ℕ → ℕ
 above_mu SP =
     128 when eqb SP 128 ∣
@@ -19,7 +19,7 @@ below_mu SP =
     126 when eqb SP 255 ∣
     SP + 1
 
--- A_law, by the code word T with its even bits inverted back: from the most negative level upwards T falls from 127 to 0, the negative level
+-- A-law, by the code word T with its even bits inverted back: from the most negative level upwards T falls from 127 to 0, the negative level
 -- next to zero, and rises from 128, the positive one, to 255
 unfoldable pub above_T : ℕ → ℕ
 above_T T =

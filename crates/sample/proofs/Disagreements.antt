@@ -1,5 +1,5 @@
 -- What a disagreement of the byte that COMPRESS gave with the received codeword means for the byte. A byte that SYNC moves disagrees. One that disagrees
--- and stays is held at an end of its law's scale: 80 or 00 in mu_law, AA or 2A in A_law.
+-- and stays is held at an end of its law's scale: 80 or 00 in mu-law, AA or 2A in A-law.
 use mathlib.Core.Logic.{◌⊎◌, inl, inr}
 use mathlib.Core.Path.{◌≡◌, refl}
 use mathlib.Core.Bool.{Bool, true, false}

@@ -1,5 +1,5 @@
 -- Demand 3: no thrown-away bit reaches the far end's predictor. From one reset on, whatever was dropped at however many base stations, and
--- whether either end speaks mu_law, A_law or linear samples, the decoder's state equals the encoder's after every frame. Both are the states of demand 2: what
+-- whether either end speaks mu-law, A-law or linear samples, the decoder's state equals the encoder's after every frame. Both are the states of demand 2: what
 -- encode_state and decode_state of the calls' contracts say, which a call that keeps the reset state does not give.
 use mathlib.Core.List.{List, [], ◌∷◌}
 use mathlib.Core.Path.{◌≡◌, ◌∙◌}

@@ -1,5 +1,5 @@
 -- Demand 3's premise can be met, whichever the ends. Three frames in a row, of eight samples each, at width 5 and core 2, the later ones with a number: the encoder speaks
--- mu_law, linear samples and mu_law again, one base station drops to 3 and the next to 2, the decoder hears A_law, A_law and linear samples, and every buffer is exactly
+-- mu-law, linear samples and mu-law again, one base station drops to 3 and the next to 2, the decoder hears A-law, A-law and linear samples, and every buffer is exactly
 -- long enough. The linear samples reach both ends of the levels.
 use mathlib.Core.Bool.{true}
 use mathlib.Core.List.{List, [], ◌∷◌}

@@ -1,5 +1,5 @@
 -- The calls of which streams and histories are made: what an encoder left in its buffer is lent to `drop_planes`, as often as there are base
--- stations that thin it, and what the last of them left is lent to a decoder. Either end speaks mu_law, A_law or linear samples. All that is said of the
+-- stations that thin it, and what the last of them left is lent to a decoder. Either end speaks mu-law, A-law or linear samples. All that is said of the
 -- calls is said of their own answers.
 -- A frame is the octets that the call reports, from the buffer's first on.
 use Rattle.std.specs.Prelude.{List, [], ◌∷◌, ◌≡◌, ℕ, take}

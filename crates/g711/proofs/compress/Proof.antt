@@ -1,4 +1,4 @@
--- `g711::compress` meets its contract: LAW 0 is mu_law, and what is not 0 is A_law.
+-- `g711::compress` meets its contract: LAW 0 is mu-law, and what is not 0 is A-law.
 use borrow.Author.Rules.{rules}
 use borrow.Author.Tests.{eq-eqb, ne_eqb}
 use Rattle.g711.specs.Compress.{COMPRESS}
