@@ -26,11 +26,11 @@ module _ (m : Memory) where
   WA2 = FMULT m.a2 m.sr2
 
   -- WB1 to WB6
-  unfoldable pub Wb : ℕ → ℕ
-  Wb n = FMULT (nth m.b n) (nth m.dq n)
+  unfoldable pub WB : ℕ → ℕ
+  WB n = FMULT (nth m.b n) (nth m.dq n)
 
   unfoldable pub predicted : Estimate
-  predicted = ACCUM WA1 WA2 (Wb 1) (Wb 2) (Wb 3) (Wb 4) (Wb 5) (Wb 6)
+  predicted = ACCUM WA1 WA2 (WB 1) (WB 2) (WB 3) (WB 4) (WB 5) (WB 6)
 
   unfoldable pub SE : ℕ
   SE = predicted.se

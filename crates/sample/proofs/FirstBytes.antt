@@ -15,7 +15,7 @@ use Rattle.quantizer.specs.Table.{find}
 use Rattle.quantizer.specs.Decision.{table11, decisions, QUAN}
 use Rattle.quantizer.specs.Adaptive.{codeword}
 use Rattle.state.specs.Reset.{reset_memory}
-use Rattle.engine.specs.Estimate.{Y, WA1, WA2, Wb, predicted, SE}
+use Rattle.engine.specs.Estimate.{Y, WA1, WA2, WB, predicted, SE}
 use Rattle.sample.specs.Encode.{D, I, encode_of}
 
 -- a law, a byte and a codeword: here the codeword is due for the byte
@@ -36,5 +36,5 @@ twelve =
     a 0xD5 0b00001 ∷ a 0x55 0b11110 ∷ a 0xD4 0b00101 ∷ a 0x2A 0b10000 ∷ []
 
 pub first_bytes : (core : ℕ) → map (λ (r : Row). (encode_of core 5 reset_memory (EXPAND r.byte r.law)).codeword) twelve ≡ map (λ (r : Row). r.codeword) twelve
-unfolding D I encode_of codeword rows bit_length outputs_mu outputs_A SS_mu SS_A EXPAND SUBTA LOG MIX LIMA EXP MANT WAnMAG FMULT ACCUM find table11 decisions QUAN reset_memory Y WA1 WA2 Wb predicted SE
+unfolding D I encode_of codeword rows bit_length outputs_mu outputs_A SS_mu SS_A EXPAND SUBTA LOG MIX LIMA EXP MANT WAnMAG FMULT ACCUM find table11 decisions QUAN reset_memory Y WA1 WA2 WB predicted SE
 first_bytes core = refl

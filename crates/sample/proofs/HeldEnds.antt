@@ -24,7 +24,7 @@ use Rattle.state.specs.declared.memory.Memory.{Memory}
 use Rattle.state.specs.InRange.{MemoryInRange}
 use Rattle.state.specs.Reset.{reset_memory}
 use Rattle.state.proofs.Ranges.{reset_memory_in_range}
-use Rattle.engine.specs.Estimate.{Y, WA1, WA2, Wb, predicted, SE}
+use Rattle.engine.specs.Estimate.{Y, WA1, WA2, WB, predicted, SE}
 use Rattle.sample.specs.Decode.{SR_FF, decode_of}
 use Rattle.sample.specs.Pcm.{move_of, SYNC, DX, SD, disagreement, play_of, byte_of, disagreement_of}
 use Rattle.sample.proofs.FirstBytes.{Row, mu, a}
@@ -49,5 +49,5 @@ abbrev pub played : ℕ → Row → ℕ × ℕ × ℕ
 played core r = (COMPRESS (decode_of core 5 loud r.codeword).sr r.law, byte_of r.law core 5 loud r.codeword, disagreement_of r.law core 5 loud r.codeword)
 
 pub held_ends : (core : ℕ) → map (played core) four ≡ map (λ (r : Row). (r.byte, r.byte, 1)) four
-unfolding rows bit_length outputs_mu outputs_A decisions_mu decisions_A SS_mu SS_A EXPAND reached level_of COMPRESS above above_mu above_T below below_mu below_T SUBTA LOG ANTILOG MIX LIMA ACCUM DQI SEI ADDB EXP MANT WAnMAG FMULT find output table15 outputs RECONST difference IM table20 places ID reset_memory Y WA1 WA2 Wb predicted SE SR_FF decode_of move_of SYNC DX SD disagreement play_of
+unfolding rows bit_length outputs_mu outputs_A decisions_mu decisions_A SS_mu SS_A EXPAND reached level_of COMPRESS above above_mu above_T below below_mu below_T SUBTA LOG ANTILOG MIX LIMA ACCUM DQI SEI ADDB EXP MANT WAnMAG FMULT find output table15 outputs RECONST difference IM table20 places ID reset_memory Y WA1 WA2 WB predicted SE SR_FF decode_of move_of SYNC DX SD disagreement play_of
 held_ends core = refl
