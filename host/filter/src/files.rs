@@ -6,7 +6,6 @@ use std::ffi::OsStr;
 use std::fs::{self, File};
 use std::io::{self, BufReader, ErrorKind, Read, Write};
 use std::os::unix::ffi::OsStrExt;
-use std::path::Path;
 
 pub struct Source {
     /// What it is called once it is open.
@@ -16,24 +15,37 @@ pub struct Source {
     again: Option<&'static str>,
 }
 
-/// The number of octets that are no text.
-const EILSEQ: i32 = 84;
-/// And that of a name that is too long, where the longest path has so many octets.
+/// The system's numbers of a file that is missing, a name that is too long and octets that are no text.
+const ENOENT: i32 = 2;
 const ENAMETOOLONG: i32 = 36;
+const EILSEQ: i32 = 84;
+/// Octets of the longest path, and of the longest name in a folder.
 const LONGEST: usize = 4095;
+const LONGEST_NAME: usize = 255;
 
-/// The proved programs open by text alone. A name that is no UTF-8 they refuse as they would refuse its folder, and else as no text.
-fn said(word: &[u8]) -> io::Result<()> {
-    if std::str::from_utf8(word).is_ok() {
+/// The proved programs open by text alone. A name that is no UTF-8 is told as no text where its folder has it or it would be made there, and else as the
+/// system tells it.
+fn said(word: &[u8], written: bool) -> io::Result<()> {
+    let refused = |number| Err(io::Error::from_raw_os_error(number));
+    if str::from_utf8(word).is_ok() {
         return Ok(());
     }
     if word.len() > LONGEST {
-        return Err(io::Error::from_raw_os_error(ENAMETOOLONG));
+        return refused(ENAMETOOLONG);
     }
-    let folder = Path::new(OsStr::from_bytes(word)).parent();
-    let folder = folder.filter(|folder| !folder.as_os_str().is_empty());
-    fs::read_dir(folder.unwrap_or(Path::new(".")))?;
-    Err(io::Error::from_raw_os_error(EILSEQ))
+    let (folder, name) = match word.iter().rposition(|octet| *octet == b'/') {
+        None => (b".".as_slice(), word),
+        Some(at) => word.split_at(at + 1),
+    };
+    let Ok(folder) = str::from_utf8(folder) else {
+        return refused(EILSEQ);
+    };
+    fs::read_dir(folder)?;
+    if name.len() > LONGEST_NAME {
+        return refused(ENAMETOOLONG);
+    }
+    let is_there = fs::symlink_metadata(OsStr::from_bytes(word)).is_ok();
+    refused(if is_there || written { EILSEQ } else { ENOENT })
 }
 
 /// Octets that are read at a time where all are wanted.
@@ -49,7 +61,7 @@ impl Source {
     }
 
     pub fn file(called: &'static str, word: &Word) -> Result<Source, Stop> {
-        let file = File::open(OsStr::from_bytes(word)).and_then(|file| said(word).map(|()| file));
+        let file = said(word, false).and_then(|()| File::open(OsStr::from_bytes(word)));
         let from = file.map_err(|error| Stop::unopened(word, &error))?;
         Ok(Source {
             called,
@@ -127,7 +139,7 @@ impl Sink {
 
     /// The file is emptied, or made.
     pub fn file(called: &'static str, word: &Word) -> Result<Sink, Stop> {
-        let file = said(word).and_then(|()| File::create(OsStr::from_bytes(word)));
+        let file = said(word, true).and_then(|()| File::create(OsStr::from_bytes(word)));
         let to = file.map_err(|error| Stop::unopened(word, &error))?;
         Ok(Sink::of(called, Box::new(to)))
     }
