@@ -23,7 +23,7 @@ pub fn put_line(rt: &HostRuntime, stream: &Stream, line: Line) -> Result<(), Err
     put(rt, stream, &octets[..n])
 }
 
-// What a file system holds back it may refuse only now. To close a file tells no more of that, so it is asked.
+// What a file system holds back it may refuse only now. std closes a file and has no answer of it, so it is asked before.
 pub fn settle(rt: &HostRuntime, stream: &Stream) -> Result<(), Error> {
     match stream {
         Stream::Nothing => Ok(()),
@@ -45,10 +45,17 @@ fn settle_standard(rt: &HostRuntime) -> Result<(), Error> {
     }
 }
 
-// A pipe or a device has nothing that could be held back, and the system says so by this kind.
 fn settle_file(file: &File) -> Result<(), Error> {
     match file.sync_data() {
-        Err(error) if error.kind() != ErrorKind::InvalidInput => Err(error),
+        Err(error) if can_be_asked(error.kind()) => Err(error),
         _ => Ok(()),
     }
+}
+
+// A pipe or a device has nothing that could be held back, and not every file system can be asked. The system says so by these kinds.
+fn can_be_asked(kind: ErrorKind) -> bool {
+    !matches!(
+        kind,
+        ErrorKind::InvalidInput | ErrorKind::Unsupported | ErrorKind::ReadOnlyFilesystem
+    )
 }
