@@ -1,6 +1,6 @@
 // The two programs whose words are read here: what each is called, and what it says where something fails.
-use std::fmt::InlineText;
 use std::io::Error;
+use text::failure::why;
 use text::{Line, STDERR, within};
 
 #[derive(Clone, Copy)]
@@ -26,17 +26,6 @@ pub fn said_by(program: Program) -> Line {
 pub fn fail(line: Line, error: Error) {
     line.write(STDERR);
     why(error).write(STDERR);
-}
-
-// Of an error of the system its text alone: behind that std writes its number.
-fn why(error: Error) -> Line {
-    let said = InlineText::<256>::of(error);
-    let words = said.as_str();
-    let text = match words.split_once(" (os error ") {
-        Some((text, _)) => text,
-        None => words,
-    };
-    Line::empty().text(b": ").text(text.as_bytes()).octet(b'\n')
 }
 
 pub fn say_unwritten(program: Program, error: Error) {

@@ -1,9 +1,11 @@
 // A line of output is a value: each method gives it back with more at its end, and the last one writes it as a whole.
 // What has no room is left out; there is room enough for every line of the programs. It goes by value, since a buffer
 // that is lent from function to function makes the check dear (docs/ARCHITECTURE.md). It is written by the kit's io,
-// whose contracts are assumed. Beside it stand signed samples as the programs read and write them (samples.rt).
+// whose contracts are assumed. Beside it stand signed samples as the programs read and write them (samples.rt), and why
+// something failed (failure.rt).
 #![tactic(auto)]
 
+pub mod failure;
 pub mod samples;
 pub mod variables;
 

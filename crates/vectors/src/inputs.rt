@@ -3,10 +3,10 @@
 ghost use Rattle.std.specs.Prelude.{◌≤◌, ◌<◌, length};
 ghost use Rattle.vectors.specs.Inputs.{input_octets};
 
-use std::fmt::InlineText;
 use std::fs::File;
 use std::io::{Error, Read};
-use text::{Line, STDERR};
+use text::STDERR;
+use text::failure::why;
 
 const FILES: usize = 8;
 
@@ -123,17 +123,6 @@ fn read_full(file: &mut File, octets: &mut [u8]) -> usize
 fn fail(what: &str, error: Error) {
     io::write_all(STDERR, what.as_bytes());
     why(error).write(STDERR);
-}
-
-// Of an error of the system its text alone: behind that std writes its number.
-fn why(error: Error) -> Line {
-    let said = InlineText::<256>::of(error);
-    let words = said.as_str();
-    let text = match words.split_once(" (os error ") {
-        Some((text, _)) => text,
-        None => words,
-    };
-    Line::empty().text(b": ").text(text.as_bytes()).octet(b'\n')
 }
 
 // Of an input, by the number of its file of mu-law
