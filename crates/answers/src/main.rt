@@ -2,55 +2,56 @@
 #![tactic(auto)]
 
 mod answering;
+mod codec;
 mod fields;
 mod forms;
 mod input;
-mod linear_end;
-mod places;
 mod readers;
-mod samples;
-mod saying;
+mod shown;
 mod states;
 mod texts;
+mod unanswered;
 mod writers;
 
 use answering::answer;
-use input::{Held, begun, end_of_line, passed, refilled, window};
-use saying::{say, say_wrong};
+use input::Lines;
+use std::io;
+use std::io::{BufReader, BufWriter, Write};
+use unanswered::Unanswered;
 
-fn main() {
-    let mut text = window();
-    answer_all(&mut text);
+// Where there is no memory, that is told and the status is 1. What cannot be written is left out, and the status is 0.
+fn main(rt: HostRuntime) -> io::Result<()> {
+    let mut lines = Lines::of(rt.alloc(), BufReader::new(rt.alloc(), rt.stdin())?)?;
+    let mut out = BufWriter::new(rt.alloc(), rt.stdout())?;
+    // A proved loop has to end, and nothing says that the input does: no run reaches the last number.
+    for number in 1..u64::MAX {
+        let (line, answer) = match lines.next() {
+            None => break,
+            Some(Ok(line)) => (line, answer(rt.alloc(), line)),
+            Some(Err(why)) => (b"".as_slice(), Err(why)),
+        };
+        if let Err(Unanswered::OutOfMemory(error)) = answer {
+            return Err(io::Error::from(error));
+        }
+        let _ = say(&mut out, number, line, answer);
+    }
+    Ok(())
 }
 
-// A proved loop has to end, and nothing says that the input does: it ends before a turn that no run reaches.
-fn answer_all(text: &mut [u8]) {
-    let mut held = begun();
-    let mut turns = 0;
-    while turns < u64::MAX && !held.done {
-        held = turn(held, text);
-        turns += 1;
+// The line as it is where it asks nothing, or with its answer, or in its place a comment that says why it has none
+fn say<W: Write>(
+    out: &mut W,
+    number: u64,
+    line: &[u8],
+    answer: Result<Option<String>, Unanswered>,
+) -> io::Result<()> {
+    match answer {
+        Ok(None) => out.write_all(line)?,
+        Ok(Some(answer)) => {
+            out.write_all(line)?;
+            write!(out, " = {answer}")?;
+        }
+        Err(why) => write!(out, "# line {number}: {why}")?,
     }
-}
-
-// A line is answered, or more is read. Behind the last line's end there is no line.
-fn turn(held: Held, text: &mut [u8]) -> Held {
-    let end = end_of_line(held, text);
-    if held.more & (end == held.to) {
-        return refilled(held, text);
-    }
-    let from = text::least(held.from, end);
-    if (from < end) | (end < held.to) | held.long {
-        answer_line(held, &text[from..end]);
-    }
-    passed(held, end)
-}
-
-fn answer_line(held: Held, line: &[u8]) {
-    if held.long {
-        say_wrong(held.line, b"too long");
-    } else {
-        answer(held.line, line);
-    }
-    say(b"\n");
+    out.write_all(b"\n")
 }

@@ -1,51 +1,45 @@
 // A writer's stage and numbers between commas.
-use crate::fields::has_part;
-use crate::readers::{number_at, octet_at};
+use crate::fields::Parts;
+use crate::forms::Form;
+use crate::shown::Shown;
 use sequence_writer::{Stage, Writer};
-use text::{Line, STDOUT};
+use std::fmt;
+use std::fmt::{Display, Formatter};
 
-pub fn is_writer(field: &[u8]) -> bool {
-    (number_at(field, 0) <= 3)
-        & (number_at(field, 1) <= 255)
-        & (number_at(field, 2) <= 255)
-        & (number_at(field, 3) <= 255)
-        & !has_part(field, 4, b',')
-}
-
-pub fn writer_in(field: &[u8]) -> Writer {
-    let stage = stage_in(number_at(field, 0));
-    Writer {
-        stage,
-        column: octet_at(field, 1),
-        value: octet_at(field, 2),
-        sum: octet_at(field, 3),
+impl Form for Writer {
+    fn read(text: &[u8]) -> Option<Writer> {
+        let mut parts = Parts::of(text, b',');
+        let writer = Writer {
+            stage: parts.next()?,
+            column: parts.next()?,
+            value: parts.next()?,
+            sum: parts.next()?,
+        };
+        parts.is_over().then_some(writer)
     }
 }
 
-fn stage_in(number: u64) -> Stage {
-    match number {
-        0 => Stage::Values,
-        1 => Stage::Closing,
-        2 => Stage::Remainder,
-        _ => Stage::Done,
+impl Form for Stage {
+    fn read(text: &[u8]) -> Option<Stage> {
+        match text {
+            b"0" => Some(Stage::Values),
+            b"1" => Some(Stage::Closing),
+            b"2" => Some(Stage::Remainder),
+            b"3" => Some(Stage::Done),
+            _ => None,
+        }
     }
 }
 
-pub fn say_writer(w: Writer) {
-    let stage = w.stage;
-    Line::empty()
-        .next(number_of(stage))
-        .marked(b',', w.column as u64)
-        .marked(b',', w.value as u64)
-        .marked(b',', w.sum as u64)
-        .write(STDOUT);
-}
-
-fn number_of(stage: Stage) -> u64 {
-    match stage {
-        Stage::Values => 0,
-        Stage::Closing => 1,
-        Stage::Remainder => 2,
-        Stage::Done => 3,
+impl Display for Shown<Writer> {
+    fn fmt<W: fmt::Write>(&self, f: &mut Formatter<W>) -> fmt::Result {
+        let w = self.0;
+        let stage = match w.stage {
+            Stage::Values => 0,
+            Stage::Closing => 1,
+            Stage::Remainder => 2,
+            Stage::Done => 3,
+        };
+        write!(f, "{stage},{},{},{}", w.column, w.value, w.sum)
     }
 }

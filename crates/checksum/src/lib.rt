@@ -2,35 +2,29 @@
 // list of no numbers has 0.
 #![tactic(auto)]
 
+ghost use Rattle.std.specs.Prelude.{◌≡◌};
+ghost use Rattle.state.specs.Numbers.{numbers_of};
+ghost use Rattle.checksum.specs.Checksum.{added, checksum_of};
+
 use state::State;
-use state::numbers::{NUMBERS, numbers};
+use state::numbers::numbers;
 
 // One number more
-pub fn add(h: u32, v: u32) -> u32 {
-    ((h as u64 * 65599 + v as u64 + 1) % 4294967291) as u32
+pub fn add(h: u32, v: u32) -> u32
+    ensures { result ≡ added h v }
+{
+    ((u64::from(h) * 65599 + u64::from(v) + 1) % 4294967291) as u32
 }
 
-pub fn of_state(s: State) -> u32 {
-    let values = numbers(s);
-    let mut h = 0;
-    let mut i = 0;
-    while i < NUMBERS {
-        h = add(h, values[i]);
-        i += 1;
-    }
-    h
+// Two folds of one line: a generic over what widens to 32 bits is longer.
+pub fn of_state(s: State) -> u32
+    ensures { result ≡ checksum_of (numbers_of s) }
+{
+    numbers(s).iter().fold(0, |h, v| add(h, *v))
 }
 
-pub fn of_octets(octets: &[u8]) -> u32 {
-    let mut h = 0;
-    let mut i = 0;
-    while i < octets.len() {
-        h = add_octet(h, octets[i]);
-        i += 1;
-    }
-    h
-}
-
-fn add_octet(h: u32, octet: u8) -> u32 {
-    add(h, octet as u32)
+pub fn of_octets(octets: &[u8]) -> u32
+    ensures { result ≡ checksum_of octets.now }
+{
+    octets.iter().fold(0, |h, octet| add(h, u32::from(*octet)))
 }

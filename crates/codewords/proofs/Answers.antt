@@ -1,65 +1,100 @@
--- What holds of every answer of a decoder, whichever its end: a refusal and a success put together, what it reports as written fits, the contract leaves no
--- choice, and a linear end counts no disagreement.
+-- What holds of every answer of a decoder, whichever its end: a refusal and a success put together, what it reports as written fits, the contract leaves no choice, and
+-- a linear end counts no disagreement.
 use mathlib.Core.List.{List, [], ◌∷◌}
-use mathlib.Core.Path.{◌≡◌, refl, sym, ◌∙◌}
+use mathlib.Core.Path.{◌≡◌, refl, sym, ap, ◌∙◌}
 use Prim.Native.Nat.{ℕ, ◌≤◌}
 use native.Mathlib.Nat.{zero-add}
 use lib.Dec.{eqb}
 use lib.IntN.{ℤ}
 use lib.ListN.{length}
+use Rattle.std.specs.declared.result.Result.{Result}
+use Rattle.std.specs.declared.result.Result.TheVariants.{Err}
 use Rattle.words.proofs.Pick.{by_pick}
 use Rattle.lists.specs.Run.{total}
 use Rattle.state.specs.declared.memory.Memory.{Memory}
 use Rattle.state.specs.declared.State.{State}
+use Rattle.state.specs.declared.answer.Answer.{Answer}
 use Rattle.sample.specs.Decode.{decoder_next}
-use Rattle.sample.specs.End.{End, linear, Sample, is_end}
-use Rattle.frame.specs.Header.{header_of, sample_count}
-use Rattle.frame.specs.Read.{body, received}
-use Rattle.frame.proofs.Codewords.{read_length}
-use Rattle.replies.specs.declared.Reply.{Reply}
-use Rattle.replies.specs.Reply.{number_of}
-use Rattle.replies.proofs.Answers.{refusal, success, counted}
+use Rattle.sample.specs.End.{End, linear, Sample, is_end, heard_of, count_of}
+use Rattle.frame.specs.Header.{header_of}
+use Rattle.frame.specs.Read.{received}
+use Rattle.replies.specs.declared.Refusal.{Refusal}
+use Rattle.replies.specs.Reply.{refusal_number, reported}
+use Rattle.replies.proofs.Answers.{refusal, success, refuses, counted}
 use Rattle.replies.proofs.Equal.{reply_equal}
-use Rattle.codewords.specs.Decode.{decode_reply, decode_count, decoded_disagreements, decode_disagreements, decode_state, decode_out, Decodes}
-use Rattle.codewords.specs.Inner.{DecodesAll}
+use Rattle.codewords.specs.declared.Decoded.{Decoded}
+use Rattle.codewords.specs.Decode.{decode_number, DecodesCodewords, decode_reply, decode_count, decoded_samples, decoded_disagreements, decode_disagreements, decode_state, decode_out, Decodes}
+use Rattle.codewords.specs.Inner.{DecodesFrame}
 use Rattle.codewords.proofs.Fitness.{decode_says}
 
-module _ (end : End) (s : State) (frame : List ℕ) (before : List (Sample end)) where
-  module _ {reply : Reply} (number : number_of reply ≡ decode_reply end s frame before) where
-    pub decodes_refused : (decode_reply end s frame before ≡ 0 → ⊥) → Decodes end s frame before before reply 0 0 s
-    unfolding decode_count decode_disagreements decode_state decode_out
-    decodes_refused refused =
-        record {
-          number = number;
-          count_is = refusal _ _ _ refused;
-          disagreements_are = refusal _ _ _ refused;
-          state = refusal _ _ _ refused;
-          out = refusal _ _ _ refused;
-        }
+-- a frame that is not refused
+pub codewords_done : {A : Type 0} (due : ℕ) (s : State) (frame : List ℕ) (before : List A) (heard : ℕ → ℕ → Memory → ℕ → A) (count : ℕ → ℕ → Memory → ℕ → ℕ) {after : List A} {done : Result Decoded Refusal} {next : State}
+    → due ≡ 0 → DecodesFrame heard count s (header_of frame) (received frame) before after done next → DecodesCodewords due s frame before heard count after done next
+codewords_done due s frame before heard count zero d =
+    record {
+      number = d.number ∙ sym zero;
+      count_is = d.count_is ∙ success _ _ _ zero;
+      disagreements_are = d.disagreements_are ∙ success _ _ _ zero;
+      state = d.state ∙ success _ _ _ zero;
+      out = d.out ∙ success _ _ _ zero;
+    }
 
-    pub decodes_done : {after : List (Sample end)} {count disagreements : ℕ} {next : State} → decode_reply end s frame before ≡ 0 → count ≡ sample_count (header_of frame)
-        → DecodesAll end s (header_of frame) (received frame) before after disagreements next → Decodes end s frame before after reply count disagreements next
-    unfolding received decode_count decode_disagreements decode_state decode_out
-    decodes_done done count d =
-        record {
-          number = number;
-          count_is = count ∙ success _ _ _ done;
-          disagreements_are = d.disagreements_are ∙ success _ _ _ done;
-          state = d.state ∙ success _ _ _ done;
-          out = d.out ∙ rw (read_length (header_of frame).width (header_of frame).groups (body frame)) (success _ _ _ done);
-        }
+module _ (end : End) (s : State) (frame : List ℕ) (before : List (Sample end)) where
+  -- what is answered for what the end puts out and counts is answered for the end
+  pub decodes_of : {after : List (Sample end)} {done : Result Decoded Refusal} {next : State}
+      → DecodesCodewords (decode_number (is_end end) s (header_of frame) (length frame) (length before)) s frame before (heard_of end) (count_of end) after done next
+      → Decodes end s frame before after done next
+  unfolding decode_reply decode_count decode_disagreements decode_state decode_out decoded_samples decoded_disagreements
+  decodes_of p = record { number = p.number; count_is = p.count_is; disagreements_are = p.disagreements_are; state = p.state; out = p.out }
+
+  pub decodes_refused : (r : Refusal) → refusal_number r ≡ decode_reply end s frame before → Decodes end s frame before before (Err r) s
+  unfolding decode_count decode_disagreements decode_state decode_out
+  decodes_refused r number =
+      let refused : decode_reply end s frame before ≡ 0 → ⊥ = λ zero. refuses r (number ∙ zero) in
+      record {
+        number = number;
+        count_is = refusal _ _ _ refused;
+        disagreements_are = refusal _ _ _ refused;
+        state = refusal _ _ _ refused;
+        out = refusal _ _ _ refused;
+      }
+
+  pub decodes_done : {after : List (Sample end)} {done : Result Decoded Refusal} {next : State} → decode_reply end s frame before ≡ 0
+      → DecodesFrame (heard_of end) (count_of end) s (header_of frame) (received frame) before after done next → Decodes end s frame before after done next
+  unfolding decode_reply
+  decodes_done zero d = decodes_of (codewords_done _ _ _ _ _ _ zero d)
 
   -- what is reported as written fits the buffer that was lent
   pub decode_room : decode_count end s frame before ≤ length before
   unfolding decode_count decode_reply
   decode_room = counted _ _ _ (λ e. (decode_says (is_end end) s (header_of frame) (length frame) (length before) e).1.space)
 
-  -- two conforming answers are equal in every part, and so are the exit buffers
-  pub decode_equal : {after after' : List (Sample end)} {reply reply' : Reply} {n n' k k' : ℕ} {t t' : State}
-      → Decodes end s frame before after reply n k t → Decodes end s frame before after' reply' n' k' t'
-      → (reply ≡ reply') × (n ≡ n') × (k ≡ k') × (t ≡ t') × (after ≡ after')
-  decode_equal {reply = reply} {reply' = reply'} p q =
-      (reply_equal reply reply' (p.number ∙ sym q.number), p.count_is ∙ sym q.count_is, p.disagreements_are ∙ sym q.disagreements_are, p.state ∙ sym q.state, p.out ∙ sym q.out)
+  -- two conforming answers are equal, and so are the exit buffers
+  pub decode_equal : {after after' : List (Sample end)} {done done' : Result Decoded Refusal} {t t' : State}
+      → Decodes end s frame before after done t → Decodes end s frame before after' done' t'
+      → (done ≡ done') × (t ≡ t') × (after ≡ after')
+  decode_equal {done = done} {done' = done'} p q =
+      let samples : reported (λ (d : Decoded). d.samples) done ≡ reported (λ (d : Decoded). d.samples) done' = p.count_is ∙ sym q.count_is in
+      let disagreements : reported (λ (d : Decoded). d.disagreements) done ≡ reported (λ (d : Decoded). d.disagreements) done' = p.disagreements_are ∙ sym q.disagreements_are in (
+        reply_equal done done' (p.number ∙ sym q.number)
+            (λ x y is is'. let many = sym (ap (reported (λ (d : Decoded). d.samples)) is) ∙ samples ∙ ap (reported (λ (d : Decoded). d.samples)) is' in
+            let few = sym (ap (reported (λ (d : Decoded). d.disagreements)) is) ∙ disagreements ∙ ap (reported (λ (d : Decoded). d.disagreements)) is' in
+            λ i. record { samples = many i; disagreements = few i }),
+        p.state ∙ sym q.state,
+        p.out ∙ sym q.out,
+      )
+
+  -- the same of an answer as a call hands it out
+  abbrev pub Answers : List (Sample end) → Answer Decoded → Type 0
+  Answers after r = Decodes end s frame before after r.done r.state
+
+  pub answers_room : (after : List (Sample end)) (r : Answer Decoded) → Answers after r → reported (λ d. d.samples) r.done ≤ length before
+  answers_room after r p = rw p.count_is decode_room
+
+  pub answers_equal : (after after' : List (Sample end)) (a b : Answer Decoded) → Answers after a → Answers after' b → (a ≡ b) × (after ≡ after')
+  answers_equal after after' a b p q =
+      let same = decode_equal p q in
+      (λ i. record { state = same.1 i; done = same.0 i }, same.2)
 
 -- nothing disagrees at a linear end, whatever comes
 none_disagrees : (core width : ℕ) (m : Memory) (codewords : List ℕ) → decoded_disagreements linear core width m codewords ≡ 0

@@ -1,6 +1,6 @@
 -- What a 0 of the decoders says of its inputs, and that fit inputs get no other number.
 use mathlib.Core.Bool.{Bool, true}
-use mathlib.Core.Path.{◌≡◌}
+use mathlib.Core.Path.{◌≡◌, sym, ◌∙◌}
 use Prim.Native.Nat.{ℕ}
 use borrow.Author.Tests.{ltb-false, le-ltb, eqb-true, eq-eqb, not-false}
 use Rattle.words.specs.First.{first}
@@ -12,6 +12,9 @@ use Rattle.frame.specs.declared.header.Header.{Header}
 use Rattle.frame.specs.Header.{sample_count}
 use Rattle.frame.specs.Rows.{frame_rows}
 use Rattle.frame.proofs.Sounds.{sound_says, sound_none}
+use Rattle.replies.specs.declared.Refusal.{Refusal}
+use Rattle.replies.specs.Reply.{refusal_number}
+use Rattle.replies.proofs.Answers.{refuses}
 use Rattle.codewords.specs.Decode.{decode_rows, decode_number}
 use Rattle.codewords.specs.Inner.{Decodable}
 
@@ -31,6 +34,9 @@ module _ (known : Bool) (s : State) (h : Header) (n room : ℕ) where
         },
       )
 
+  pub decode_fits : 0 ≡ decode_number known s h n room → (known ≡ true) × Decodable s h n room
+  decode_fits done = decode_says (sym done)
+
   pub decode_number_of : known ≡ true → Decodable s h n room → decode_number known s h n room ≡ 0
   unfolding decode_number
   decode_number_of is k =
@@ -48,3 +54,10 @@ module _ (known : Bool) (s : State) (h : Header) (n room : ℕ) where
     pub decode_behind : NoneApplies (frame_rows h n) → decode_number known s h n room ≡ first (decode_rows s h room)
     unfolding decode_number first
     decode_behind none = rw (range, is) (first_behind (frame_rows h n) (decode_rows s h room) none)
+
+    -- so a refusal of the frame's is the call's, and where there is none the number of what is behind it is
+    pub frame_refused : (r : Refusal) → refusal_number r ≡ first (frame_rows h n) → refusal_number r ≡ decode_number known s h n room
+    frame_refused r e = e ∙ sym (decode_front (λ z. refuses r (e ∙ z)))
+
+    pub frame_passed : {number : ℕ} → 0 ≡ first (frame_rows h n) → number ≡ first (decode_rows s h room) → number ≡ decode_number known s h n room
+    frame_passed passed e = e ∙ sym (decode_behind (first_says _ tt (sym passed)))

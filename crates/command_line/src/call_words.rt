@@ -1,103 +1,139 @@
-// The words that the tool is called with, by their places among the program's arguments, from 1 on. The runtime has them.
-ghost use Rattle.io.specs.Counts.{IsPrefixLen};
-
+// The words that a program is called with. The runtime has them, by their places from 1 on.
+use crate::wrong::{Name, Wrong};
+use arrayvec::ArrayVec;
 use std::env::FillError;
 use std::rt::Env;
-use text::within;
 
-// A number of decimal digits. One above 9,999 is 9,999: every limit of the calls lies far below.
-#[derive(Clone, Copy)]
-pub struct Number {
-    pub good: bool,
-    pub value: usize,
+// Of a word these octets are all that counts.
+const MOST: usize = 4096;
+
+// A word, which need not be UTF-8
+#[derive(Drop)]
+pub struct Word {
+    pub place: usize,
+    octets: ArrayVec<u8, MOST>,
 }
 
-pub fn is_there(rt: &HostRuntime, i: usize) -> bool {
-    let mut word = io::buffer();
-    !matches!(rt.arg(i, &mut word), Err(FillError::NotPresent))
-}
-
-// The place after this one
-pub fn after(i: usize) -> usize {
-    std::num::wrapping_add_usize(i, 1)
-}
-
-// The word at the start of the buffer, or as much of it as there is room for; 0 octets where it is missing
-pub fn copy_word(rt: &HostRuntime, i: usize, word: &mut [u8]) -> usize
-    ensures { IsPrefixLen result word.new }
-{
-    match rt.arg(i, word) {
-        Ok(n) => within(n, word),
-        Err(FillError::TooLong) => within(word.len(), word),
-        Err(FillError::NotPresent) => 0,
-    }
-}
-
-pub fn is_word(rt: &HostRuntime, i: usize, text: &[u8]) -> bool {
-    let mut word = io::buffer();
-    let n = copy_word(rt, i, &mut word);
-    check::same(&word[..n], text)
-}
-
-pub fn are_same(rt: &HostRuntime, i: usize, j: usize) -> bool {
-    let mut word = io::buffer();
-    let n = copy_word(rt, i, &mut word);
-    is_word(rt, j, &word[..n])
-}
-
-// Whether it can name a file: it is not empty, no number and no option
-pub fn is_name(rt: &HostRuntime, i: usize) -> bool {
-    let mut word = io::buffer();
-    let n = copy_word(rt, i, &mut word);
-    let number = read_number(&word[..n]);
-    (0 < n) & (word[0] != b'-') & !number.good
-}
-
-pub fn number_at(rt: &HostRuntime, i: usize) -> Number {
-    let mut word = io::buffer();
-    let n = copy_word(rt, i, &mut word);
-    read_number(&word[..n])
-}
-
-fn read_number(word: &[u8]) -> Number {
-    let mut value = 0;
-    let mut i = 0;
-    while i < word.len() {
-        let digit = digit_of(word[i]);
-        if 9 < digit {
-            return Number {
-                good: false,
-                value: 0,
-            };
+impl Word {
+    // None where the words end before the place
+    pub fn at(rt: &HostRuntime, place: usize) -> Option<Word> {
+        let mut octets = ArrayVec::from([0; MOST]);
+        match rt.arg(place, octets.as_mut_slice()) {
+            Ok(count) => octets.truncate(count),
+            Err(FillError::TooLong) => {}
+            Err(FillError::NotPresent) => return None,
         }
-        value = grown(value, digit);
-        i += 1;
+        Some(Word { place, octets })
     }
-    Number { good: 0 < i, value }
+
+    pub fn as_bytes(&self) -> &[u8] {
+        self.octets.as_slice()
+    }
+
+    // Of decimal digits only. One that is too great is the greatest: every limit of the calls lies far below.
+    pub fn number(&self) -> Option<u16> {
+        let digits = self.as_bytes();
+        if digits.is_empty() {
+            return None;
+        }
+        digits
+            .iter()
+            .try_fold(0, |number, digit| grown(number, *digit))
+    }
+
+    // Whether it can name a file: it is not empty, no number and no option
+    pub fn is_name(&self) -> bool {
+        match self.as_bytes() {
+            [] | [b'-', ..] => false,
+            _ => self.number().is_none(),
+        }
+    }
 }
 
-// 10 where it is no digit
-pub fn digit_of(letter: u8) -> u8 {
-    if letter < b'0' {
-        return 10;
+fn grown(number: u16, letter: u8) -> Option<u16> {
+    if !letter.is_ascii_digit() {
+        return None;
     }
-    if b'9' < letter {
-        return 10;
-    }
-    letter - b'0'
+    Some(
+        number
+            .saturating_mul(10)
+            .saturating_add(u16::from(letter - b'0')),
+    )
 }
 
-fn grown(value: usize, digit: u8) -> usize {
-    if value < 1000 {
-        return value * 10 + (digit as usize);
-    }
-    9999
+// The words from a place on, read from the left
+#[derive(Drop)]
+pub struct Words<'a> {
+    rt: &'a HostRuntime,
+    pub place: usize,
 }
 
-// As the octet that a call takes; 255 where it is greater
-pub fn octet_of(value: usize) -> u8 {
-    if value < 256 {
-        return value as u8;
+impl Words<'_> {
+    pub fn new(rt: &HostRuntime) -> Words<'_> {
+        Words { rt, place: 1 }
     }
-    255
+
+    fn peek(&self) -> Option<Word> {
+        Word::at(self.rt, self.place)
+    }
+
+    fn skip(&mut self) {
+        self.place = self.place.wrapping_add(1);
+    }
+
+    // Goes past the word where it is this one
+    pub fn skip_if(&mut self, text: &[u8]) -> bool {
+        let is_text = match self.peek() {
+            Some(word) => word.as_bytes() == text,
+            None => false,
+        };
+        if is_text {
+            self.skip();
+        }
+        is_text
+    }
+
+    pub fn next(&mut self) -> Option<Word> {
+        let word = self.peek();
+        self.skip();
+        word
+    }
+
+    // The next word where it is a number
+    pub fn next_number(&mut self) -> Option<u16> {
+        let number = self.peek()?.number()?;
+        self.skip();
+        Some(number)
+    }
+
+    pub fn is_at_end(&self) -> bool {
+        self.peek().is_none()
+    }
+
+    // Nothing may follow.
+    pub fn end(&self) -> Result<(), Wrong> {
+        if self.is_at_end() {
+            return Ok(());
+        }
+        Err(Wrong::Unknown(self.place))
+    }
+
+    // A word that has to be there
+    pub fn named(&mut self, name: Name) -> Result<Word, Wrong> {
+        self.next().ok_or(Wrong::Missing(name))
+    }
+
+    pub fn number(&mut self, name: Name) -> Result<u16, Wrong> {
+        let word = self.named(name)?;
+        word.number().ok_or(Wrong::NoNumber(word.place))
+    }
+
+    // The place of a file's name
+    pub fn file(&mut self) -> Result<usize, Wrong> {
+        let word = self.named(Name::File)?;
+        if word.is_name() {
+            return Ok(word.place);
+        }
+        Err(Wrong::NoFileName(word.place))
+    }
 }

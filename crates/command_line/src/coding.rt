@@ -1,128 +1,83 @@
-// The words of encode and decode: LAW WIDTH CORE [SAMPLES [EDITION]], and LAW; of sequences both have LAW WIDTH CORE.
-use crate::call_words::{after, number_at, octet_of};
-use crate::kinds::number;
-use crate::law::{MU, law_at};
-use crate::program::Program;
-use crate::wrong::{wrong, wrong_pair};
+// The words of encode: LAW WIDTH CORE [SAMPLES [EDITION]]. The pair is the same in both programs.
+ghost use Rattle.quantizer.specs.Pair.{is_pair};
+ghost use Rattle.std.specs.Prelude.{◌≡◌, min, IsTrue};
+
+use crate::call_words::Words;
+use crate::law::{Speech, read_speech};
+use crate::wrong::{Name, Wrong};
 use frame::header::{PLAIN, is_count, is_edition};
 use quantizer::pair::is_pair;
 
-// What they ask, and the place behind them
+const USUAL_SAMPLES: usize = 160;
+
+// One of the nine
 #[derive(Clone, Copy)]
-pub struct Coding {
-    pub good: bool,
-    pub at: usize,
-    // MU, A or LINEAR
-    pub law: u8,
+pub struct Pair {
     pub width: u8,
     pub core: u8,
+    ghost is_pair: { IsTrue (is_pair width core) },
+}
+
+#[derive(Clone, Copy)]
+pub struct Coding {
+    pub speech: Speech,
+    pub pair: Pair,
     pub samples: usize,
     pub edition: u8,
 }
 
-// Beside it every width is a pair's.
-const LEAST_CORE: u8 = 2;
-
-const USUAL_SAMPLES: usize = 160;
-
-pub fn is_width(width: u8) -> bool {
-    is_pair(width, LEAST_CORE)
+pub fn read_pair(words: &mut Words) -> Result<Pair, Wrong> {
+    let first = words.place;
+    let width = octet_of(words.number(Name::Width)?);
+    let second = words.place;
+    let core = octet_of(words.number(Name::Core)?);
+    if is_pair(width, core) {
+        return Ok(Pair { width, core });
+    }
+    Err(Wrong::NoPair(first, second))
 }
 
-// What no word asks
-pub fn usual() -> Coding {
-    Coding {
-        good: false,
-        at: 0,
-        law: MU,
-        width: 0,
-        core: LEAST_CORE,
-        samples: USUAL_SAMPLES,
-        edition: PLAIN,
-    }
+// As the octet that a call takes; 255 where it is greater
+pub fn octet_of(number: u16) -> u8
+    ensures { result ≡ min number 255 }
+{
+    u8::try_from(number).unwrap_or(u8::MAX)
 }
 
-pub fn read_law(rt: &HostRuntime, program: Program, at: usize) -> Coding {
-    let law = law_at(rt, program, at);
-    Coding {
-        good: law.good,
-        at: after(at),
-        law: law.value,
-        ..usual()
-    }
-}
-
-pub fn read_pair(rt: &HostRuntime, program: Program, at: usize) -> Coding {
-    let coding = read_law(rt, program, at);
-    if !coding.good {
-        return usual();
-    }
-    let first = coding.at;
-    let width = number(rt, program, first, b"WIDTH");
-    if !width.good {
-        return usual();
-    }
-    let second = after(first);
-    let core = number(rt, program, second, b"CORE");
-    if !core.good {
-        return usual();
-    }
-    let x = octet_of(width.value);
-    let y = octet_of(core.value);
-    if !is_pair(x, y) {
-        wrong_pair(rt, program, first, second);
-        return usual();
-    }
-    Coding {
-        at: after(second),
-        width: x,
-        core: y,
-        ..coding
-    }
-}
-
-// With SAMPLES and EDITION, where numbers are next
-pub fn read_encode(rt: &HostRuntime, at: usize) -> Coding {
-    let coding = read_pair(rt, Program::Parchfennel, at);
-    if !coding.good {
-        return coding;
-    }
-    with_samples(rt, coding)
-}
-
-// The count is told before the edition behind it is looked at, and both editions take the same counts.
-fn with_samples(rt: &HostRuntime, coding: Coding) -> Coding {
-    let at = coding.at;
-    let count = number_at(rt, at);
-    if !count.good {
-        return coding;
-    }
-    if !is_count(coding.edition, count.value) {
-        wrong(rt, Program::Parchfennel, b"no count of samples: ", at);
-        return usual();
-    }
-    let counted = Coding {
-        at: after(at),
-        samples: count.value,
-        ..coding
+pub fn read_coding(words: &mut Words) -> Result<Coding, Wrong> {
+    let speech = read_speech(words)?;
+    let pair = read_pair(words)?;
+    let place = words.place;
+    let Some(count) = words.next_number() else {
+        return Ok(Coding {
+            speech,
+            pair,
+            samples: USUAL_SAMPLES,
+            edition: PLAIN,
+        });
     };
-    with_edition(rt, counted)
+    let samples = usize::from(count);
+    // Both editions take the same counts.
+    if !is_count(PLAIN, samples) {
+        return Err(Wrong::NoCount(place));
+    }
+    let edition = read_edition(words)?;
+    Ok(Coding {
+        speech,
+        pair,
+        samples,
+        edition,
+    })
 }
 
-fn with_edition(rt: &HostRuntime, coding: Coding) -> Coding {
-    let at = coding.at;
-    let asked = number_at(rt, at);
-    if !asked.good {
-        return coding;
+fn read_edition(words: &mut Words) -> Result<u8, Wrong> {
+    let place = words.place;
+    let edition = match words.next_number() {
+        None => PLAIN,
+        Some(number) => octet_of(number),
+    };
+    if is_edition(edition) {
+        return Ok(edition);
     }
-    let edition = octet_of(asked.value);
-    if !is_edition(edition) {
-        wrong(rt, Program::Parchfennel, b"no edition: ", at);
-        return usual();
-    }
-    Coding {
-        at: after(at),
-        edition,
-        ..coding
-    }
+    Err(Wrong::NoEdition(place))
 }

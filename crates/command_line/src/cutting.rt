@@ -1,62 +1,48 @@
 // The words of drop: [-most] WIDTH, or [-most] -list FILE.
-use crate::call_words::{after, is_word, octet_of};
-use crate::coding::is_width;
-use crate::kinds::{is_file, number};
-use crate::program::Program;
-use crate::wrong::wrong;
+ghost use Rattle.std.specs.Prelude.{◌≡◌};
+ghost use Rattle.quantizer.specs.Pair.{is_pair};
 
-// What they ask, and the place behind them
+use crate::call_words::Words;
+use crate::coding::octet_of;
+use crate::wrong::{Name, Wrong};
+use quantizer::pair::is_pair;
+
+// Beside it every width is a pair's.
+const LEAST_CORE: u8 = 2;
+
+// Of each frame, or of each in turn by the list whose file's word stands there
+#[derive(Clone, Copy)]
+pub enum Widths {
+    One(u8),
+    Listed(usize),
+}
+
 #[derive(Clone, Copy)]
 pub struct Cut {
-    pub good: bool,
-    pub at: usize,
-    pub width: u8,
     pub most: bool,
-    pub list: usize,
+    pub widths: Widths,
 }
 
-// What no word asks
-pub fn uncut() -> Cut {
-    Cut {
-        good: false,
-        at: 0,
-        width: 0,
-        most: false,
-        list: 0,
-    }
+pub fn is_width(width: u8) -> bool
+    ensures { result ≡ is_pair width 2 }
+{
+    is_pair(width, LEAST_CORE)
 }
 
-pub fn read_cut(rt: &HostRuntime, at: usize) -> Cut {
-    if is_word(rt, at, b"-most") {
-        let cut = read_widths(rt, after(at));
-        return Cut { most: true, ..cut };
-    }
-    read_widths(rt, at)
+pub fn read_cut(words: &mut Words) -> Result<Cut, Wrong> {
+    let most = words.skip_if(b"-most");
+    let widths = read_widths(words)?;
+    Ok(Cut { most, widths })
 }
 
-fn read_widths(rt: &HostRuntime, at: usize) -> Cut {
-    if is_word(rt, at, b"-list") {
-        let list = after(at);
-        return Cut {
-            good: is_file(rt, Program::Parchfennel, list),
-            at: after(list),
-            list,
-            ..uncut()
-        };
+fn read_widths(words: &mut Words) -> Result<Widths, Wrong> {
+    if words.skip_if(b"-list") {
+        return Ok(Widths::Listed(words.file()?));
     }
-    let asked = number(rt, Program::Parchfennel, at, b"WIDTH");
-    if !asked.good {
-        return uncut();
+    let place = words.place;
+    let width = octet_of(words.number(Name::Width)?);
+    if is_width(width) {
+        return Ok(Widths::One(width));
     }
-    let width = octet_of(asked.value);
-    if !is_width(width) {
-        wrong(rt, Program::Parchfennel, b"no width: ", at);
-        return uncut();
-    }
-    Cut {
-        good: true,
-        at: after(at),
-        width,
-        ..uncut()
-    }
+    Err(Wrong::NoWidth(place))
 }

@@ -1,74 +1,44 @@
 // IN and OUT, the last words, and that no file is written that another word names.
-use crate::call_words::{after, are_same, is_there, is_word};
-use crate::kinds::{is_behind, is_file};
-use crate::program::Program;
-use crate::wrong::wrong;
+use crate::call_words::{Word, Words};
+use crate::wrong::Wrong;
 
+// The places of their words, none for the standard streams
 #[derive(Clone, Copy)]
 pub struct Ends {
-    pub good: bool,
-    pub input: usize,
-    pub output: usize,
+    pub input: Option<usize>,
+    pub output: Option<usize>,
 }
 
-// Each where it is there, and nothing behind them
-pub fn read_ends(rt: &HostRuntime, at: usize) -> Ends {
-    let second = after(at);
-    Ends {
-        good: are_ends(rt, at, second),
-        input: named(rt, at),
-        output: named(rt, second),
+// Nothing may stand behind them.
+pub fn read_ends(words: &mut Words) -> Result<Ends, Wrong> {
+    let input = read_end(words)?;
+    let output = read_end(words)?;
+    words.end()?;
+    Ok(Ends { input, output })
+}
+
+fn read_end(words: &mut Words) -> Result<Option<usize>, Wrong> {
+    if words.is_at_end() || words.skip_if(b"-") {
+        return Ok(None);
+    }
+    Ok(Some(words.file()?))
+}
+
+// Two words may name one file only where it is read by both.
+pub fn are_apart(
+    rt: &HostRuntime,
+    written: Option<usize>,
+    other: Option<usize>,
+) -> Result<(), Wrong> {
+    match (written, other) {
+        (Some(i), Some(j)) if are_same(rt, i, j) => Err(Wrong::TwoForOneFile(i)),
+        _ => Ok(()),
     }
 }
 
-fn are_ends(rt: &HostRuntime, first: usize, second: usize) -> bool {
-    if !is_end(rt, first) {
-        return false;
+fn are_same(rt: &HostRuntime, i: usize, j: usize) -> bool {
+    match (Word::at(rt, i), Word::at(rt, j)) {
+        (Some(first), Some(second)) => first.as_bytes() == second.as_bytes(),
+        _ => false,
     }
-    if !is_end(rt, second) {
-        return false;
-    }
-    is_behind(rt, Program::Parchfennel, after(second))
-}
-
-fn is_end(rt: &HostRuntime, at: usize) -> bool {
-    if is_standard(rt, at) {
-        return true;
-    }
-    is_file(rt, Program::Parchfennel, at)
-}
-
-fn named(rt: &HostRuntime, at: usize) -> usize {
-    if is_standard(rt, at) {
-        return 0;
-    }
-    at
-}
-
-fn is_standard(rt: &HostRuntime, at: usize) -> bool {
-    !is_there(rt, at) | is_word(rt, at, b"-")
-}
-
-// What is written, OUT and the states, is no other word's file
-pub fn are_apart(rt: &HostRuntime, ends: Ends, list: usize, states: usize) -> bool {
-    if !ends.good {
-        return false;
-    }
-    if is_one(rt, ends.output, ends.input) | is_one(rt, ends.output, list) {
-        twice(rt, ends.output);
-        return false;
-    }
-    if is_one(rt, states, ends.input) | is_one(rt, states, ends.output) {
-        twice(rt, states);
-        return false;
-    }
-    true
-}
-
-fn is_one(rt: &HostRuntime, i: usize, j: usize) -> bool {
-    (i != 0) & (j != 0) & are_same(rt, i, j)
-}
-
-fn twice(rt: &HostRuntime, i: usize) {
-    wrong(rt, Program::Parchfennel, b"two words for one file: ", i);
 }

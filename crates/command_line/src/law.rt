@@ -1,54 +1,57 @@
-// LAW: how speech is coded where it is no frame. The two laws have the numbers that the calls take; linear samples have calls of
-// their own, and of the two programs only the tool takes them.
-use crate::call_words::{is_there, is_word};
-use crate::program::Program;
-use crate::wrong::{missing, wrong};
+// LAW: how speech is coded where it is no frame. Linear samples have calls of their own, and of the two programs only the tool
+// takes them.
+ghost use Rattle.std.specs.Prelude.{◌≡◌};
+ghost use Rattle.command_line.specs.Law.{law_number};
 
-pub const MU: u8 = 0;
+use crate::call_words::Words;
+use crate::wrong::{Name, Wrong};
 
-pub const A: u8 = 1;
+// A law of G.711
+#[derive(Clone, Copy)]
+pub enum Law {
+    Mu,
+    A,
+}
 
-pub const LINEAR: u8 = 2;
+// The number that the calls take
+impl From<Law> for u8 {
+    ghost from_gives = { λ law number. number ≡ law_number law };
+
+    fn from(law: Law) -> u8 {
+        match law {
+            Law::Mu => 0,
+            Law::A => 1,
+        }
+    }
+}
 
 #[derive(Clone, Copy)]
-pub struct Law {
-    pub good: bool,
-    pub value: u8,
+pub enum Speech {
+    Companded(Law),
+    Linear,
 }
 
-// What the word says. Says where it is missing or another.
-pub fn law_at(rt: &HostRuntime, program: Program, at: usize) -> Law {
-    if !is_there(rt, at) {
-        missing(program, b"LAW");
-        return none();
-    }
-    if is_word(rt, at, b"mu") {
-        return found(MU);
-    }
-    if is_word(rt, at, b"a") {
-        return found(A);
-    }
-    if takes_linear(program) & is_word(rt, at, b"linear") {
-        return found(LINEAR);
-    }
-    wrong(rt, program, b"no law: ", at);
-    none()
+pub fn read_law(words: &mut Words) -> Result<Law, Wrong> {
+    let word = words.named(Name::Law)?;
+    law_named(word.as_bytes()).ok_or(Wrong::NoLaw(word.place))
 }
 
-fn takes_linear(program: Program) -> bool {
-    match program {
-        Program::Parchfennel => true,
-        Program::Sequences => false,
+pub fn read_speech(words: &mut Words) -> Result<Speech, Wrong> {
+    let word = words.named(Name::Law)?;
+    speech_named(word.as_bytes()).ok_or(Wrong::NoLaw(word.place))
+}
+
+fn law_named(name: &[u8]) -> Option<Law> {
+    match name {
+        b"mu" => Some(Law::Mu),
+        b"a" => Some(Law::A),
+        _ => None,
     }
 }
 
-fn found(value: u8) -> Law {
-    Law { good: true, value }
-}
-
-fn none() -> Law {
-    Law {
-        good: false,
-        value: MU,
+fn speech_named(name: &[u8]) -> Option<Speech> {
+    match name {
+        b"linear" => Some(Speech::Linear),
+        _ => law_named(name).map(Speech::Companded),
     }
 }

@@ -1,149 +1,94 @@
-// The tool's words (docs/TOOL.md), read from the left into a task. The first wrong word is said, and then there is no task.
-// Which widths, pairs and counts there are is asked of the crates that the calls ask. The words of the other program,
-// `sequences`, are read in sequences.rt, out of the same kinds of word.
+// The tool's words (docs/TOOL.md), read from the left into a task, up to the first wrong one. Which widths, pairs and counts
+// there are is asked of the crates that the calls ask. The words of the other program, `sequences`, are read in sequences.rt, out
+// of the same kinds of word.
 #![tactic(auto)]
 
 pub mod call_words;
 pub mod coding;
 pub mod cutting;
 mod ends;
-mod kinds;
 pub mod law;
 mod options;
 pub mod pages;
 pub mod program;
+pub mod quoting;
 pub mod sequences;
 pub mod status;
 pub mod wrong;
 
-use crate::call_words::{after, is_there, is_word};
-use crate::coding::{Coding, read_encode, read_law, usual};
-use crate::cutting::{Cut, read_cut, uncut};
+use crate::call_words::Words;
+use crate::coding::{Coding, read_coding};
+use crate::cutting::{Cut, Widths, read_cut};
 use crate::ends::{are_apart, read_ends};
+use crate::law::{Speech, read_speech};
 use crate::options::{Options, read_options};
-use crate::program::Program;
-use crate::wrong::{missing, unknown, wrong};
+use crate::wrong::{Name, Wrong};
 
 #[derive(Clone, Copy)]
 pub enum Command {
-    Encode,
-    Drop,
-    Decode,
+    Encode(Coding),
+    Drop(Cut),
+    Decode(Speech),
     Inspect,
 }
 
-// What the words ask. Files are the places of their words, 0 where there is none: standard input, standard output, no list,
-// no states.
+// What the words ask. Files are the places of their words, none for standard input, standard output and no states.
 #[derive(Clone, Copy)]
 pub struct Task {
-    pub good: bool,
     pub command: Command,
     pub verbose: bool,
-    pub states: usize,
-    pub coding: Coding,
-    pub cut: Cut,
-    pub input: usize,
-    pub output: usize,
+    pub states: Option<usize>,
+    pub input: Option<usize>,
+    pub output: Option<usize>,
 }
 
-pub fn read(rt: &HostRuntime) -> Task {
-    let options = read_options(rt);
-    if !options.good {
-        return none();
-    }
-    with_command(rt, options)
-}
-
-fn none() -> Task {
-    let command = Command::Inspect;
-    let coding = usual();
-    let cut = uncut();
-    Task {
-        good: false,
+pub fn read(rt: &HostRuntime) -> Result<Task, Wrong> {
+    let mut words = Words::new(rt);
+    let Options { verbose, states } = read_options(&mut words)?;
+    let command = read_command(&mut words, states)?;
+    let ends = read_ends(&mut words)?;
+    // What is written, OUT and the states, is no other word's file.
+    are_apart(rt, ends.output, ends.input)?;
+    are_apart(rt, ends.output, command.list())?;
+    are_apart(rt, states, ends.input)?;
+    are_apart(rt, states, ends.output)?;
+    Ok(Task {
         command,
-        verbose: false,
-        states: 0,
-        coding,
-        cut,
-        input: 0,
-        output: 0,
-    }
-}
-
-fn with_command(rt: &HostRuntime, options: Options) -> Task {
-    let at = options.at;
-    if is_word(rt, at, b"encode") {
-        return coded(rt, options, Command::Encode, read_encode(rt, after(at)));
-    }
-    if is_word(rt, at, b"decode") {
-        return coded(
-            rt,
-            options,
-            Command::Decode,
-            read_law(rt, Program::Parchfennel, after(at)),
-        );
-    }
-    if !is_there(rt, at) {
-        missing(Program::Parchfennel, b"COMMAND");
-        return none();
-    }
-    stateless(rt, options)
-}
-
-fn coded(rt: &HostRuntime, options: Options, command: Command, coding: Coding) -> Task {
-    if !coding.good {
-        return none();
-    }
-    whole(rt, options, command, coding, uncut(), coding.at)
-}
-
-// A command that has no state to show
-fn stateless(rt: &HostRuntime, options: Options) -> Task {
-    let at = options.at;
-    let drops = is_word(rt, at, b"drop");
-    if !drops & !is_word(rt, at, b"inspect") {
-        unknown(rt, Program::Parchfennel, at);
-        return none();
-    }
-    if 0 < options.states {
-        wrong(rt, Program::Parchfennel, b"no states to write: ", at);
-        return none();
-    }
-    let quiet = Options {
-        verbose: false,
-        ..options
-    };
-    if drops {
-        return thinned(rt, quiet, read_cut(rt, after(at)));
-    }
-    whole(rt, quiet, Command::Inspect, usual(), uncut(), after(at))
-}
-
-fn thinned(rt: &HostRuntime, options: Options, cut: Cut) -> Task {
-    if !cut.good {
-        return none();
-    }
-    whole(rt, options, Command::Drop, usual(), cut, cut.at)
-}
-
-// The task, with IN and OUT from here on
-fn whole(
-    rt: &HostRuntime,
-    options: Options,
-    command: Command,
-    coding: Coding,
-    cut: Cut,
-    at: usize,
-) -> Task {
-    let ends = read_ends(rt, at);
-    Task {
-        good: are_apart(rt, ends, cut.list, options.states),
-        command,
-        verbose: options.verbose,
-        states: options.states,
-        coding,
-        cut,
+        verbose: verbose && command.has_states(),
+        states,
         input: ends.input,
         output: ends.output,
+    })
+}
+
+// drop and inspect have no states to write.
+fn read_command(words: &mut Words, states: Option<usize>) -> Result<Command, Wrong> {
+    let word = words.named(Name::Command)?;
+    match word.as_bytes() {
+        b"encode" => Ok(Command::Encode(read_coding(words)?)),
+        b"decode" => Ok(Command::Decode(read_speech(words)?)),
+        b"drop" | b"inspect" if states.is_some() => Err(Wrong::NoStates(word.place)),
+        b"drop" => Ok(Command::Drop(read_cut(words)?)),
+        b"inspect" => Ok(Command::Inspect),
+        _ => Err(Wrong::Unknown(word.place)),
+    }
+}
+
+impl Command {
+    fn has_states(self) -> bool {
+        matches!(self, Command::Encode(_) | Command::Decode(_))
+    }
+
+    // The place of the list's word
+    fn list(self) -> Option<usize> {
+        match self {
+            Command::Drop(
+                Cut {
+                    widths: Widths::Listed(place),
+                    ..
+                },
+            ) => Some(place),
+            _ => None,
+        }
     }
 }

@@ -1,48 +1,37 @@
 // -v and -states FILE, before the command and in any order.
-use crate::call_words::{after, is_word};
-use crate::kinds::is_file;
-use crate::program::Program;
+use crate::call_words::Words;
+use crate::wrong::Wrong;
 
-// Those that are there, and the place behind them
 #[derive(Clone, Copy)]
 pub struct Options {
-    pub good: bool,
-    pub at: usize,
     pub verbose: bool,
-    pub states: usize,
+    // The place of FILE
+    pub states: Option<usize>,
 }
 
 // There are two options, and so two steps.
-pub fn read_options(rt: &HostRuntime) -> Options {
+pub fn read_options(words: &mut Words) -> Result<Options, Wrong> {
     let none = Options {
-        good: true,
-        at: 1,
         verbose: false,
-        states: 0,
+        states: None,
     };
-    take_option(rt, take_option(rt, none))
+    let first = take_option(words, none)?;
+    take_option(words, first)
 }
 
-fn take_option(rt: &HostRuntime, o: Options) -> Options {
-    let at = o.at;
-    if !o.good {
-        return o;
-    }
-    if !o.verbose & is_word(rt, at, b"-v") {
-        return Options {
+// One that is given twice is not taken.
+fn take_option(words: &mut Words, options: Options) -> Result<Options, Wrong> {
+    if !options.verbose && words.skip_if(b"-v") {
+        return Ok(Options {
             verbose: true,
-            at: after(at),
-            ..o
-        };
+            ..options
+        });
     }
-    if (o.states == 0) & is_word(rt, at, b"-states") {
-        let file = after(at);
-        return Options {
-            good: is_file(rt, Program::Parchfennel, file),
-            states: file,
-            at: after(file),
-            ..o
-        };
+    if options.states.is_none() && words.skip_if(b"-states") {
+        return Ok(Options {
+            states: Some(words.file()?),
+            ..options
+        });
     }
-    o
+    Ok(options)
 }

@@ -1,65 +1,113 @@
 // The help, the version and the usage of each program. The version is that of the file VERSION, the kit's line that of KIT.
-use crate::call_words::{is_there, is_word};
-use crate::program::{Program, named, put, say_unwritten};
-use crate::status::{WRONG_WORDS, status_of};
-use crate::wrong::unknown;
-use std::io::Error;
-use text::Line;
+use crate::call_words::Words;
+use crate::program::Program;
+use crate::status::Status;
+use crate::wrong::Wrong;
+use std::io;
 
-// Where the first word asks for a page, the status that the program ends with
 #[derive(Clone, Copy)]
-pub enum Paged {
-    Nothing,
-    Ended(u8),
+enum Page {
+    Help,
+    Version,
 }
 
-// Writes the page that the first word asks for, which stands alone
-pub fn answer(rt: &HostRuntime, program: Program) -> Paged {
-    if is_word(rt, 1, b"--help") {
-        return Paged::Ended(page(rt, program, true));
-    }
-    if is_word(rt, 1, b"--version") {
-        return Paged::Ended(page(rt, program, false));
-    }
-    Paged::Nothing
+// The page that the first word asks for, which stands alone
+fn read_page(rt: &HostRuntime) -> Result<Option<Page>, Wrong> {
+    let mut words = Words::new(rt);
+    let Some(page) = page_of(&mut words) else {
+        return Ok(None);
+    };
+    words.end()?;
+    Ok(Some(page))
 }
 
-fn page(rt: &HostRuntime, program: Program, help: bool) -> u8 {
-    if is_there(rt, 2) {
-        unknown(rt, program, 2);
-        return WRONG_WORDS;
+fn page_of(words: &mut Words) -> Option<Page> {
+    if words.skip_if(b"--help") {
+        return Some(Page::Help);
     }
-    match written_page(rt, program, help) {
-        Ok(()) => status_of(true),
-        Err(error) => {
-            say_unwritten(program, error);
-            status_of(false)
+    if words.skip_if(b"--version") {
+        return Some(Page::Version);
+    }
+    None
+}
+
+// What the words ask: a page, or a task
+#[derive(Drop)]
+enum Asked<T> {
+    Page(Page),
+    Task(T),
+}
+
+// The task that the words ask, read so. Where they ask a page or are wrong, that is written or said, and a program ends with the
+// status.
+pub fn task_of<T: Drop, F: Fn(&HostRuntime) -> Result<T, Wrong> + Drop>(
+    rt: &HostRuntime,
+    program: Program,
+    read: F,
+) -> Result<T, Status>
+    requires { F.IsAlwaysCallable read }
+{
+    match read_asked(rt, read) {
+        Ok(Asked::Task(task)) => Ok(task),
+        Ok(Asked::Page(page)) => Err(page.write(rt, program)),
+        Err(wrong) => {
+            wrong.say(rt, program);
+            Err(Status::WrongWords)
         }
     }
 }
 
-fn written_page(rt: &HostRuntime, program: Program, help: bool) -> Result<(), Error> {
-    if help {
-        return write_help(rt, program);
+fn read_asked<T: Drop, F: Fn(&HostRuntime) -> Result<T, Wrong> + Drop>(
+    rt: &HostRuntime,
+    read: F,
+) -> Result<Asked<T>, Wrong>
+    requires { F.IsAlwaysCallable read }
+{
+    if let Some(page) = read_page(rt)? {
+        return Ok(Asked::Page(page));
     }
-    let line = named(program).text(
-        b" 0.6.0
-proved with rattle-kit-13f logic dac8208d650f15bf
-",
-    );
-    put(rt, line)
+    Ok(Asked::Task(read(rt)?))
 }
 
-fn write_help(rt: &HostRuntime, program: Program) -> Result<(), Error> {
-    match program {
-        Program::Parchfennel => write_help_of_parchfennel(rt),
-        Program::Sequences => write_help_of_sequences(rt),
+impl Page {
+    fn write(self, rt: &HostRuntime, program: Program) -> Status {
+        match self.print(rt, program) {
+            Ok(()) => Status::Done,
+            Err(error) => {
+                program.say_unwritten(rt, error);
+                Status::Failed
+            }
+        }
+    }
+
+    fn print(self, rt: &HostRuntime, program: Program) -> io::Result<()> {
+        match self {
+            Page::Help => rt.print(program.help()),
+            Page::Version => {
+                println!(rt; "{program} 0.6.0\nproved with rattle-kit-13f logic dac8208d650f15bf")
+            }
+        }
     }
 }
 
-fn write_help_of_parchfennel(rt: &HostRuntime) -> Result<(), Error> {
-    rt.write_all(
-        b"parchfennel: the embedded ADPCM of Recommendation G.727 in a pipe
+impl Program {
+    fn help(self) -> &'static str {
+        match self {
+            Program::Parchfennel => HELP_OF_PARCHFENNEL,
+            Program::Sequences => HELP_OF_SEQUENCES,
+        }
+    }
+
+    // How the program is called
+    pub fn usage(self) -> &'static str {
+        match self {
+            Program::Parchfennel => USAGE_OF_PARCHFENNEL,
+            Program::Sequences => USAGE_OF_SEQUENCES,
+        }
+    }
+}
+
+const HELP_OF_PARCHFENNEL: &str = "parchfennel: the embedded ADPCM of Recommendation G.727 in a pipe
 
 Speech, in G.711 or in linear samples, becomes frames of 40, 32, 24 or 16 kbit/s,
 and frames become speech. The lower bits of a frame may be thrown away on the way,
@@ -107,13 +155,10 @@ Status:
   1   a frame was refused, the stream ended inside a frame or a sample, or reading
       or writing failed; standard error says where; what was written before stays
   2   wrong words; nothing was read or written
-",
-    )
-}
+";
 
-fn write_help_of_sequences(rt: &HostRuntime) -> Result<(), Error> {
-    rt.write_all(
-        b"sequences: reads, writes and runs test sequences of Recommendation G.727
+const HELP_OF_SEQUENCES: &str =
+    "sequences: reads, writes and runs test sequences of Recommendation G.727
 
 A sequence is a text: two hexadecimal digits a value, up to 32 values a line, and
 on a last line of its own the sum of all values modulo 255.
@@ -139,39 +184,20 @@ Status:
   1   a text was refused, a codeword was above its width, or reading or writing
       failed; standard error says where; what was written before stays
   2   wrong words; nothing was read or written
-",
-    )
-}
+";
 
-// The line of wrong words, and how the program is called
-pub fn with_usage(program: Program, line: Line) -> Line {
-    match program {
-        Program::Parchfennel => with_usage_of_parchfennel(line),
-        Program::Sequences => with_usage_of_sequences(line),
-    }
-}
-
-fn with_usage_of_parchfennel(line: Line) -> Line {
-    line.text(
-        b"called as: parchfennel [-v] [-states FILE] encode LAW WIDTH CORE [SAMPLES [EDITION]] [IN [OUT]]
+const USAGE_OF_PARCHFENNEL: &str =
+    "called as: parchfennel [-v] [-states FILE] encode LAW WIDTH CORE [SAMPLES [EDITION]] [IN [OUT]]
            parchfennel drop [-most] WIDTH [IN [OUT]]
            parchfennel drop [-most] -list FILE [IN [OUT]]
            parchfennel [-v] [-states FILE] decode LAW [IN [OUT]]
            parchfennel inspect [IN [OUT]]
            parchfennel --help | --version
-LAW is mu, a or linear; WIDTH is 2 to 5; CORE is 2 to 4, not above WIDTH; SAMPLES is a multiple of 8, 8 to 320; EDITION is 1 or 2
-",
-    )
-}
+LAW is mu, a or linear; WIDTH is 2 to 5; CORE is 2 to 4, not above WIDTH; SAMPLES is a multiple of 8, 8 to 320; EDITION is 1 or 2";
 
-fn with_usage_of_sequences(line: Line) -> Line {
-    line.text(
-        b"called as: sequences read
+const USAGE_OF_SEQUENCES: &str = "called as: sequences read
            sequences write
            sequences encode LAW WIDTH CORE [HOMING]
            sequences decode LAW WIDTH CORE [HOMING]
            sequences --help | --version
-LAW is mu or a; WIDTH is 2 to 5; CORE is 2 to 4, not above WIDTH; HOMING is a file, a text of PCM values
-",
-    )
-}
+LAW is mu or a; WIDTH is 2 to 5; CORE is 2 to 4, not above WIDTH; HOMING is a file, a text of PCM values";

@@ -1,7 +1,8 @@
 // The two programs whose words are read here: what each is called, and what it says where something fails.
+use std::fmt;
+use std::fmt::{Display, Formatter};
 use std::io::Error;
-use text::failure::why;
-use text::{Line, STDERR, within};
+use text::failure::Why;
 
 #[derive(Clone, Copy)]
 pub enum Program {
@@ -9,35 +10,18 @@ pub enum Program {
     Sequences,
 }
 
-// The program's name, at the beginning of a line
-pub fn named(program: Program) -> Line {
-    match program {
-        Program::Parchfennel => Line::empty().text(b"parchfennel"),
-        Program::Sequences => Line::empty().text(b"sequences"),
+// Its name, which every line on standard error but the usage begins with
+impl Display for Program {
+    fn fmt<W: fmt::Write>(&self, f: &mut Formatter<W>) -> fmt::Result {
+        f.write_str(match self {
+            Program::Parchfennel => "parchfennel",
+            Program::Sequences => "sequences",
+        })
     }
 }
 
-// What every line on standard error but the usage begins with
-pub fn said_by(program: Program) -> Line {
-    named(program).text(b": ")
-}
-
-// What failed, and why
-pub fn fail(line: Line, error: Error) {
-    line.write(STDERR);
-    why(error).write(STDERR);
-}
-
-pub fn say_unwritten(program: Program, error: Error) {
-    fail(
-        said_by(program).text(b"cannot write standard output"),
-        error,
-    );
-}
-
-// To standard output, all of it
-pub fn put(rt: &HostRuntime, line: Line) -> Result<(), Error> {
-    let octets = line.octets;
-    let n = within(line.count, &octets);
-    rt.write_all(&octets[..n])
+impl Program {
+    pub fn say_unwritten(self, rt: &HostRuntime, error: Error) {
+        let _ = eprintln!(rt; "{self}: cannot write standard output: {}", Why(error));
+    }
 }

@@ -1,82 +1,48 @@
 // The words of the program `sequences`, read from the left into a task: COMMAND, and of encode and decode LAW WIDTH CORE
-// [HOMING]. The first wrong word is said, and then there is no task.
-use crate::call_words::{after, is_there, is_word};
-use crate::coding::{Coding, read_pair, usual};
-use crate::kinds::{is_behind, is_file};
-use crate::program::Program;
-use crate::wrong::{missing, unknown};
+// [HOMING].
+use crate::call_words::Words;
+use crate::coding::{Pair, read_pair};
+use crate::law::{Law, read_law};
+use crate::wrong::{Name, Wrong};
 
+// How values are coded, and the place of HOMING's word
 #[derive(Clone, Copy)]
-pub enum Command {
+pub struct Coding {
+    pub law: Law,
+    pub pair: Pair,
+    pub homing: Option<usize>,
+}
+
+// What the words ask
+#[derive(Clone, Copy)]
+pub enum Task {
     Read,
     Write,
-    Encode,
-    Decode,
+    Encode(Coding),
+    Decode(Coding),
 }
 
-// What the words ask. HOMING is the place of its word, 0 where there is none.
-#[derive(Clone, Copy)]
-pub struct Task {
-    pub good: bool,
-    pub command: Command,
-    pub coding: Coding,
-    pub homing: usize,
+pub fn read(rt: &HostRuntime) -> Result<Task, Wrong> {
+    let mut words = Words::new(rt);
+    let command = words.named(Name::Command)?;
+    let task = match command.as_bytes() {
+        b"read" => Task::Read,
+        b"write" => Task::Write,
+        b"encode" => Task::Encode(read_coding(&mut words)?),
+        b"decode" => Task::Decode(read_coding(&mut words)?),
+        _ => return Err(Wrong::Unknown(command.place)),
+    };
+    words.end()?;
+    Ok(task)
 }
 
-pub fn read(rt: &HostRuntime) -> Task {
-    if !is_there(rt, 1) {
-        missing(Program::Sequences, b"COMMAND");
-        return none();
-    }
-    if is_word(rt, 1, b"read") {
-        return plain(rt, Command::Read);
-    }
-    if is_word(rt, 1, b"write") {
-        return plain(rt, Command::Write);
-    }
-    if is_word(rt, 1, b"encode") {
-        return coded(rt, Command::Encode);
-    }
-    if is_word(rt, 1, b"decode") {
-        return coded(rt, Command::Decode);
-    }
-    unknown(rt, Program::Sequences, 1);
-    none()
-}
-
-fn none() -> Task {
-    whole(false, Command::Read, usual(), 0)
-}
-
-fn whole(good: bool, command: Command, coding: Coding, homing: usize) -> Task {
-    Task {
-        good,
-        command,
-        coding,
-        homing,
-    }
-}
-
-fn plain(rt: &HostRuntime, command: Command) -> Task {
-    whole(is_behind(rt, Program::Sequences, 2), command, usual(), 0)
-}
-
-fn coded(rt: &HostRuntime, command: Command) -> Task {
-    let coding = read_pair(rt, Program::Sequences, 2);
-    if !coding.good {
-        return none();
-    }
-    homed(rt, command, coding, coding.at)
-}
-
-// With HOMING, where one more word is there
-fn homed(rt: &HostRuntime, command: Command, coding: Coding, at: usize) -> Task {
-    if !is_there(rt, at) {
-        return whole(true, command, coding, 0);
-    }
-    if !is_file(rt, Program::Sequences, at) {
-        return none();
-    }
-    let good = is_behind(rt, Program::Sequences, after(at));
-    whole(good, command, coding, at)
+fn read_coding(words: &mut Words) -> Result<Coding, Wrong> {
+    let law = read_law(words)?;
+    let pair = read_pair(words)?;
+    let homing = if words.is_at_end() {
+        None
+    } else {
+        Some(words.file()?)
+    };
+    Ok(Coding { law, pair, homing })
 }

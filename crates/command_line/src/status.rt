@@ -1,13 +1,58 @@
 // What a program ends with.
-pub const DONE: u8 = 0;
+ghost use Rattle.std.specs.Prelude.{◌≡◌};
+ghost use Rattle.command_line.specs.Status.{status_number, joined};
 
-pub const FAILED: u8 = 1;
+use std::process::ExitCode;
 
-pub const WRONG_WORDS: u8 = 2;
+#[derive(Clone, Copy)]
+pub enum Status {
+    Done,
+    Failed,
+    WrongWords,
+}
 
-pub fn status_of(done: bool) -> u8 {
-    if done {
-        return DONE;
+// What stops a program before all is done, and is said on standard error
+pub trait Stopping {
+    fn say(self, rt: &HostRuntime);
+}
+
+impl Status {
+    // Says what stopped it, if anything did
+    pub fn of<S: Stopping>(rt: &HostRuntime, outcome: Result<(), S>) -> Status {
+        match outcome {
+            Ok(()) => Status::Done,
+            Err(stop) => {
+                stop.say(rt);
+                Status::Failed
+            }
+        }
     }
-    FAILED
+
+    // Done where both are
+    pub fn and(self, other: Status) -> Status
+        ensures { result ≡ joined self other }
+    {
+        match self {
+            Status::Done => other,
+            stopped => stopped,
+        }
+    }
+}
+
+impl From<Status> for u8 {
+    ghost from_gives = { λ status number. number ≡ status_number status };
+
+    fn from(status: Status) -> u8 {
+        match status {
+            Status::Done => 0,
+            Status::Failed => 1,
+            Status::WrongWords => 2,
+        }
+    }
+}
+
+impl From<Status> for ExitCode {
+    fn from(status: Status) -> ExitCode {
+        ExitCode::from(u8::from(status))
+    }
 }

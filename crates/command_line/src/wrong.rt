@@ -1,54 +1,95 @@
-// What is said of wrong words: the first one, and the usage.
-ghost use Rattle.std.specs.Prelude.{◌≡◌, length};
+// What may be wrong with the words, and how it is said: the first wrong one, and the usage.
+use crate::program::Program;
+use crate::quoting::say_quoting;
+use std::fmt;
+use std::fmt::{Display, Formatter};
 
-use crate::call_words::copy_word;
-use crate::pages::with_usage;
-use crate::program::{Program, said_by};
-use text::{Line, STDERR};
-
-// Octets of a word that are shown
-const SHOWN: usize = 1000;
-
-// What is wrong, and the word
-pub fn wrong(rt: &HostRuntime, program: Program, what: &[u8], i: usize) {
-    let line = wrong_words(program).text(what).octet(b'\'');
-    say_wrong(program, worded(rt, line, i));
+// A word that may be missing, as the usage calls it
+#[derive(Clone, Copy)]
+pub enum Name {
+    Command,
+    Law,
+    Width,
+    Core,
+    File,
 }
 
-pub fn unknown(rt: &HostRuntime, program: Program, i: usize) {
-    wrong(rt, program, b"unknown word: ", i);
+// Words by their places
+#[derive(Clone, Copy)]
+pub enum Wrong {
+    Missing(Name),
+    Unknown(usize),
+    NoLaw(usize),
+    NoNumber(usize),
+    NoWidth(usize),
+    NoPair(usize, usize),
+    NoCount(usize),
+    NoEdition(usize),
+    NoStates(usize),
+    NoFileName(usize),
+    TwoForOneFile(usize),
 }
 
-pub fn wrong_pair(rt: &HostRuntime, program: Program, width: usize, core: usize) {
-    let line = wrong_words(program).text(b"no pair of WIDTH and CORE: '");
-    say_wrong(
-        program,
-        worded(rt, worded(rt, line, width).octet(b' '), core),
-    );
+impl Display for Name {
+    fn fmt<W: fmt::Write>(&self, f: &mut Formatter<W>) -> fmt::Result {
+        f.write_str(match self {
+            Name::Command => "COMMAND",
+            Name::Law => "LAW",
+            Name::Width => "WIDTH",
+            Name::Core => "CORE",
+            Name::File => "FILE",
+        })
+    }
 }
 
-pub fn missing(program: Program, name: &[u8]) {
-    let line = wrong_words(program).text(b"a word is missing: ").text(name);
-    with_usage(program, line.octet(b'\n')).write(STDERR);
+// What stands before the word
+impl Display for Wrong {
+    fn fmt<W: fmt::Write>(&self, f: &mut Formatter<W>) -> fmt::Result {
+        f.write_str(match self {
+            Wrong::Missing(_) => "a word is missing",
+            Wrong::Unknown(_) => "unknown word",
+            Wrong::NoLaw(_) => "no law",
+            Wrong::NoNumber(_) => "not a number",
+            Wrong::NoWidth(_) => "no width",
+            Wrong::NoPair(_, _) => "no pair of WIDTH and CORE",
+            Wrong::NoCount(_) => "no count of samples",
+            Wrong::NoEdition(_) => "no edition",
+            Wrong::NoStates(_) => "no states to write",
+            Wrong::NoFileName(_) => {
+                "not a file name (one called so is written with ./ before it)"
+            }
+            Wrong::TwoForOneFile(_) => "two words for one file",
+        })
+    }
 }
 
-fn wrong_words(program: Program) -> Line {
-    said_by(program).text(b"wrong words: ")
-}
+impl Wrong {
+    pub fn say(self, rt: &HostRuntime, program: Program) {
+        match self {
+            Wrong::Missing(name) => {
+                let usage = program.usage();
+                let _ = eprintln!(rt; "{program}: wrong words: {self}: {name}\n{usage}");
+            }
+            Wrong::NoPair(width, core) => self.say_of(rt, program, &[width, core]),
+            Wrong::Unknown(place)
+            | Wrong::NoLaw(place)
+            | Wrong::NoNumber(place)
+            | Wrong::NoWidth(place)
+            | Wrong::NoCount(place)
+            | Wrong::NoEdition(place)
+            | Wrong::NoStates(place)
+            | Wrong::NoFileName(place)
+            | Wrong::TwoForOneFile(place) => self.say_of(rt, program, &[place]),
+        }
+    }
 
-// The line's last word is closed, and the usage follows.
-fn say_wrong(program: Program, line: Line) {
-    with_usage(program, line.text(b"'\n")).write(STDERR);
-}
-
-pub fn worded(rt: &HostRuntime, line: Line, i: usize) -> Line {
-    let mut word = shown();
-    let n = copy_word(rt, i, &mut word);
-    line.text(&word[..n])
-}
-
-fn shown() -> [u8; SHOWN]
-    ensures { 1000 ≡ length result }
-{
-    [0; SHOWN]
+    fn say_of(self, rt: &HostRuntime, program: Program, places: &[usize]) {
+        let usage = program.usage();
+        say_quoting(
+            rt,
+            format_args!("{program}: wrong words: {self}: "),
+            places,
+            format_args!("\n{usage}"),
+        );
+    }
 }

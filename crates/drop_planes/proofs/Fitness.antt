@@ -36,3 +36,6 @@ module _ (h : Header) (n w room : ℕ) where
   pub drop_behind : NoneApplies (frame_rows h n) → drop_number h n w room ≡ first (drop_rows h w room)
   unfolding drop_number
   drop_behind none = first_behind (frame_rows h n) (drop_rows h w room) none
+
+  pub drop_past : first (frame_rows h n) ≡ 0 → drop_number h n w room ≡ first (drop_rows h w room)
+  drop_past e = drop_behind (first_says (frame_rows h n) tt e)

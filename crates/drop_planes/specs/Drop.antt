@@ -7,8 +7,9 @@ use Rattle.frame.specs.declared.header.Header.{Header}
 use Rattle.frame.specs.Header.{header_of, due_length}
 use Rattle.frame.specs.Read.{narrowed, thinned}
 use Rattle.frame.specs.Rows.{frame_rows}
-use Rattle.replies.specs.Reply.{number_of}
-use Rattle.drop_planes.specs.declared.DropAnswer.{DropAnswer}
+use Rattle.std.specs.declared.result.Result.{Result}
+use Rattle.replies.specs.declared.Refusal.{Refusal}
+use Rattle.replies.specs.Reply.{number_of, reported}
 
 -- a target width from y to x
 abbrev pub is_target : Header → ℕ → Bool
@@ -35,7 +36,7 @@ module _ (frame : List ℕ) (w : ℕ) (before : List ℕ) where
   unfoldable pub drop_out : List ℕ
   drop_out = pick (eqb drop_reply 0) (thinned w frame ++ drop (due_length (narrowed w (header_of frame))) before) before
 
-  pub record Drops (after : List ℕ) (r : DropAnswer) : Type 0 where
-    pub number : number_of r.reply ≡ drop_reply
-    pub octets : r.octets ≡ drop_octets
+  pub record Drops (after : List ℕ) (r : Result ℕ Refusal) : Type 0 where
+    pub number : number_of r ≡ drop_reply
+    pub octets : reported (λ octets. octets) r ≡ drop_octets
     pub out : after ≡ drop_out

@@ -4,21 +4,18 @@ use mathlib.Core.Path.{◌≡◌}
 use Prim.Native.Nat.{ℕ, ◌≤◌}
 use lib.ListN.{length}
 use Rattle.state.specs.declared.State.{State}
+use Rattle.state.specs.declared.answer.Answer.{Answer}
 use Rattle.sample.specs.End.{pcm}
-use Rattle.levels.specs.Encode.{Encodes}
-use Rattle.levels.proofs.Answers.{encode_room, encode_equal}
-use Rattle.encode.specs.declared.EncodeAnswer.{EncodeAnswer}
+use Rattle.replies.specs.Reply.{reported}
+use Rattle.levels.proofs.Answers as of_end
 
-module _ (s : State) (LAW : ℕ) (e width : ℕ) (samples : List ℕ) (before after : List ℕ) where
+module _ (s : State) (law e width : ℕ) (samples : List ℕ) (before : List ℕ) where
   -- what encode promises of its answer
-  abbrev pub Answers : EncodeAnswer → Type 0
-  Answers r = Encodes (pcm LAW) s e width samples before after r.reply r.octets r.state
+  abbrev pub Answers : List ℕ → Answer ℕ → Type 0
+  Answers = of_end.Answers (pcm law) s e width samples before
 
-pub answers_room : (s : State) (LAW : ℕ) (e width : ℕ) (samples : List ℕ) (before after : List ℕ) (r : EncodeAnswer) → Answers s LAW e width samples before after r → r.octets ≤ length before
-answers_room s LAW e width samples before after r p = rw p.octets_are (encode_room (pcm LAW) s e width samples before)
+  pub answers_room : (after : List ℕ) (r : Answer ℕ) → Answers after r → reported (λ n. n) r.done ≤ length before
+  answers_room = of_end.answers_room (pcm law) s e width samples before
 
-pub answers_equal : (s : State) (LAW : ℕ) (e width : ℕ) (samples : List ℕ) (before after after' : List ℕ) (a b : EncodeAnswer) → Answers s LAW e width samples before after a
-    → Answers s LAW e width samples before after' b → (a ≡ b) × (after ≡ after')
-answers_equal s LAW e width samples before after after' a b p q =
-    let same = encode_equal (pcm LAW) s e width samples before p q in
-    (λ i. record { reply = same.0 i; octets = same.1 i; state = same.2 i }, same.3)
+  pub answers_equal : (after after' : List ℕ) (a b : Answer ℕ) → Answers after a → Answers after' b → (a ≡ b) × (after ≡ after')
+  answers_equal = of_end.answers_equal (pcm law) s e width samples before

@@ -21,6 +21,7 @@ pub struct Speeds {
     pub apr: u16,
 }
 
+#[tactic(auto, using(speed::proofs::Range::lima_range), unfolding(crate::specs::Estimate::Y))]
 pub fn scale_factor(m: Memory) -> u16
     requires { MemoryInRange m }
     ensures { result ≡ Y m }
@@ -28,6 +29,7 @@ pub fn scale_factor(m: Memory) -> u16
     mix(lima(m.ap), m.yu, m.yl)
 }
 
+#[tactic(auto, using(scale::proofs::Range::filtd_word), unfolding(crate::specs::Adaptation::scales_of))]
 pub fn next_scales(m: Memory, wi: u16, y: u16) -> Scales
     requires { MemoryInRange m }
     ensures { result ≡ scales_of m wi y }
@@ -39,6 +41,7 @@ pub fn next_scales(m: Memory, wi: u16, y: u16) -> Scales
     }
 }
 
+#[tactic(auto, using(speed::proofs::Range::filta_range, speed::proofs::Range::filtb_range, speed::proofs::Range::subtc_range), unfolding(crate::specs::Adaptation::speeds_of))]
 pub fn next_speeds(m: Memory, fi: u16, tdp: u16, tr: u16, y: u16) -> Speeds
     requires { MemoryInRange m × (fi ≤ 7) }
     ensures { result ≡ speeds_of m fi tdp tr y }

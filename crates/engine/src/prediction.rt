@@ -18,20 +18,21 @@ pub struct Poles {
     pub tdp: u16,
 }
 
+#[tactic(auto, unfolding(crate::specs::Estimate::predicted, crate::specs::Estimate::WA1, crate::specs::Estimate::WA2, crate::specs::Estimate::WB))]
 pub fn signal_estimate(m: Memory) -> Estimate
     ensures { result ≡ predicted m }
 {
-    let b = m.b;
-    let dq = m.dq;
+    let [b1, b2, b3, b4, b5, b6] = m.b;
+    let [dq1, dq2, dq3, dq4, dq5, dq6] = m.dq;
     accum(
         fmult(m.a1, m.sr1),
         fmult(m.a2, m.sr2),
-        fmult(b[0], dq[0]),
-        fmult(b[1], dq[1]),
-        fmult(b[2], dq[2]),
-        fmult(b[3], dq[3]),
-        fmult(b[4], dq[4]),
-        fmult(b[5], dq[5]),
+        fmult(b1, dq1),
+        fmult(b2, dq2),
+        fmult(b3, dq3),
+        fmult(b4, dq4),
+        fmult(b5, dq5),
+        fmult(b6, dq6),
     )
 }
 
@@ -43,7 +44,9 @@ pub fn next_signal(dq: u16, se: u16) -> u16
     floatb(addb(dq, se))
 }
 
-// The second order predictor and the tone that it shows. A2 is limited first, since it limits A1.
+// The second order predictor and the tone that it shows. A2 is limited first, since it limits A1. PK0 and SIGPK by name, as UPA1 and UPA2 print
+// them.
+#[tactic(auto, unfolding(crate::specs::Prediction::poles_of))]
 pub fn next_poles(m: Memory, pk0: u16, sigpk: u16, tr: u16) -> Poles
     ensures { result ≡ poles_of m pk0 sigpk tr }
 {
@@ -56,22 +59,17 @@ pub fn next_poles(m: Memory, pk0: u16, sigpk: u16, tr: u16) -> Poles
     }
 }
 
+#[tactic(auto, unfolding(crate::specs::Prediction::zero_of))]
 fn next_zero(tr: u16, dq: u16, bn: u16, dqn: u16) -> u16
     ensures { result ≡ zero_of tr dq bn dqn }
 {
     trigb(tr, upb(xor(dqn, dq), bn, dq))
 }
 
-// The sixth order predictor
+// The sixth order predictor. Two arrays side by side, and arrays have no zip.
+#[tactic(auto, unfolding(crate::specs::Prediction::zeros_of))]
 pub fn next_zeros(tr: u16, dq0: u16, b: [u16; 6], dq: [u16; 6]) -> [u16; 6]
     ensures { result ≡ zeros_of tr dq0 b dq }
 {
-    [
-        next_zero(tr, dq0, b[0], dq[0]),
-        next_zero(tr, dq0, b[1], dq[1]),
-        next_zero(tr, dq0, b[2], dq[2]),
-        next_zero(tr, dq0, b[3], dq[3]),
-        next_zero(tr, dq0, b[4], dq[4]),
-        next_zero(tr, dq0, b[5], dq[5]),
-    ]
+    std::array::from_fn(|n| next_zero(tr, dq0, b[n], dq[n]))
 }

@@ -14,6 +14,7 @@ use predictor::sums::addc;
 use predictor::tone::trans;
 use state::memory::Memory;
 
+#[tactic(auto, unfolding(crate::specs::Estimate::estimate_of, crate::specs::Estimate::SE, crate::specs::Estimate::SEZ))]
 pub fn estimate(m: Memory) -> Estimated
     requires { MemoryInRange m }
     ensures { result ≡ estimate_of m }
@@ -26,6 +27,7 @@ pub fn estimate(m: Memory) -> Estimated
     }
 }
 
+#[tactic(auto, using(crate::proofs::Estimates::y_is, crate::proofs::Estimates::se_is, crate::proofs::Estimates::sez_is, crate::proofs::Estimates::se_answered, crate::proofs::Estimates::sez_answered), unfolding(crate::specs::Advance::advance_of))]
 pub fn advance(m: Memory, e: Estimated, dq: u16, wi: u16, fi: u16) -> Memory
     requires { MemoryInRange m × (e ≡ estimate_of m) × (fi ≤ 7) }
     ensures { result ≡ advance_of m dq wi fi }
@@ -35,9 +37,7 @@ pub fn advance(m: Memory, e: Estimated, dq: u16, wi: u16, fi: u16) -> Memory
     let poles = next_poles(m, sign.pk0, sign.sigpk, tr);
     let scales = next_scales(m, wi, e.y);
     let speeds = next_speeds(m, fi, poles.tdp, tr, e.y);
-    let past = m.dq;
-    let coefficients = m.b;
-    let zeros = next_zeros(tr, dq, coefficients, past);
+    let [dq1, dq2, dq3, dq4, dq5, _] = m.dq;
     Memory {
         yu: scales.yup,
         yl: scales.ylp,
@@ -46,8 +46,8 @@ pub fn advance(m: Memory, e: Estimated, dq: u16, wi: u16, fi: u16) -> Memory
         ap: speeds.apr,
         a1: poles.a1r,
         a2: poles.a2r,
-        b: zeros,
-        dq: [floata(dq), past[0], past[1], past[2], past[3], past[4]],
+        b: next_zeros(tr, dq, m.b, m.dq),
+        dq: [floata(dq), dq1, dq2, dq3, dq4, dq5],
         sr1: next_signal(dq, e.se),
         sr2: m.sr1,
         pk1: sign.pk0,

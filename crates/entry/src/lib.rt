@@ -2,9 +2,9 @@
 #![tactic(auto)]
 
 pub fn parchfennel(rt: &HostRuntime) -> u8 {
-    tool::run(rt)
+    u8::from(tool::run(rt))
 }
 
 pub fn sequences(rt: &HostRuntime) -> u8 {
-    sequence_tool::run(rt)
+    u8::from(sequence_tool::run(rt))
 }

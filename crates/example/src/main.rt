@@ -4,50 +4,33 @@
 use decode::decode;
 use drop_planes::drop_planes;
 use encode::encode;
-use replies::{Reply, number_of};
+use replies::Refusal;
 use reset::reset;
 use state::State;
 use state::numbers::same_state;
 
-const STDOUT: i32 = 1;
-
-fn main() {
+// What cannot be printed is left out.
+fn main(rt: HostRuntime) -> Result<(), Refusal> {
     let started = reset(2);
-    let state = started.state;
-    send(state, state);
+    started.done?;
+    send(&rt, started.state, started.state)
 }
 
-fn send(near: State, far: State) {
+fn send(rt: &impl Print, near: State, far: State) -> Result<(), Refusal> {
     let speech = [0x7f; 160];
     let mut radio = [0; 103];
     let mut thin = [0; 63];
     let mut sound = [0; 160];
     let sent = encode(near, 0, 2, 5, &speech, &mut radio); // mu-law in, a numbered frame, 40 kbit/s
-    let n = sent.octets;
-    let kept = drop_planes(&radio[..n], 3, &mut thin); // two planes thrown away: 24 kbit/s
-    let m = kept.octets;
+    let n = sent.done?;
+    let m = drop_planes(&radio[..n], 3, &mut thin)?; // two planes thrown away: 24 kbit/s
     let decoded = decode(far, 1, &thin[..m], &mut sound); // A-law out
-    let sent_reply = sent.reply;
-    let kept_reply = kept.reply;
-    let decode_reply = decoded.reply;
-    tell(b"encode: reply ", sent_reply, n);
-    tell(b"drop: reply ", kept_reply, m);
-    tell(b"decode: reply ", decode_reply, decoded.octets);
-    let after = sent.state;
-    let behind = decoded.state;
-    compare(after, behind);
-}
-
-fn compare(near: State, far: State) {
-    if same_state(near, far) {
-        io::write_all(STDOUT, b"both ends have the same state\n");
+    let k = decoded.done?.samples;
+    let _ = println!(rt; "encode: reply 0, octets {n}");
+    let _ = println!(rt; "drop: reply 0, octets {m}");
+    let _ = println!(rt; "decode: reply 0, octets {k}");
+    if same_state(sent.state, decoded.state) {
+        let _ = println!(rt; "both ends have the same state");
     }
-}
-
-fn tell(call: &[u8], reply: Reply, octets: usize) {
-    io::write_all(STDOUT, call);
-    io::print_decimal(STDOUT, number_of(reply) as u64);
-    io::write_all(STDOUT, b", octets ");
-    io::print_decimal(STDOUT, octets as u64);
-    io::write_all(STDOUT, b"\n");
+    Ok(())
 }

@@ -1,57 +1,80 @@
--- A bit shifted in behind others; and the loop that gathers eight of them into an octet, by what is left to gather.
-use mathlib.Core.Path.{◌≡◌, sym, ◌∙◌}
-use mathlib.Core.List.{List}
-use Prim.Native.Nat.{ℕ, suc, ◌+◌, ◌-◌, ◌*◌, ◌/◌, ◌%◌, ◌^◌, ◌≤◌, ◌<◌}
-use native.Mathlib.Nat.{add-zero, add_assoc, pow-suc}
+-- A bit shifted in behind others; eight of them gathered into an octet; and the loop that writes a plane.
+use mathlib.Core.Path.{◌≡◌, refl, sym, ◌∙◌}
+use mathlib.Core.List.{List, [], ◌∷◌, append-nil}
+use Prim.Native.Nat.{ℕ, zero, suc, ◌+◌, ◌*◌, ◌/◌, ◌%◌, ◌^◌, ◌≤◌, ◌<◌}
+use native.Mathlib.Nat.{pow-suc, mul-le-mul_left, mul-le-mul_right}
 use native.Mathlib.Omega.{arith}
 use lib.Bits.{bit_and, bit_or, and_mask, or_shifted}
-use lib.ListN.{get_or, drop}
+use lib.ListN.{length, get_or, take, drop, set, drop_of_length-le}
 use lib.Pow.{pow_mono}
-use lib.Seq.{drop-drop, get_or-drop}
+use lib.Seq.{drop-drop}
+use Rattle.std.specs.List.{fold}
+use Rattle.std.specs.Simd.{first_chunks}
+use Rattle.lists.proofs.Filled.{Filled, filled_none, filled_more, filled_all}
 use Rattle.frame.specs.Header.{group}
-use Rattle.frame.specs.Planes.{bit, gather}
-use Rattle.frame.specs.Shifted.{Shifted}
+use Rattle.frame.specs.Planes.{bit, gather, plane}
+use Rattle.frame.proofs.Sizes.{plane_length, plane_at}
 
-pub shifted : (there b c : ℕ) → there < 128 → Shifted there b c (bit_or (there * 2 % 256) (bit_and (c / 2 ^ b) 1))
+-- a shift, a mask and an or are a sum where the bits do not meet
+pub shifted : (there b c : ℕ) → bit_or (there * 2 % 256) (bit_and (c / 2 ^ b) 1) ≡ (there * 2 + bit b c) % 256
 unfolding bit
-shifted there b c h =
-    let kept : there * 2 % 256 ≡ there * 2 = omega arith in
+shifted there b c =
+    let kept : there * 2 % 256 ≡ there % 128 * 2 = omega arith in
     let one : c / 2 ^ b % 2 < 2 = omega arith in
-    let joined : bit_or (there * 2 % 256) (bit_and (c / 2 ^ b) 1) ≡ there * 2 + c / 2 ^ b % 2 = rw (kept, and_mask (c / 2 ^ b) 1) (or_shifted there 1 (c / 2 ^ b % 2) one) in
-    record { is = joined; small = rw joined (omega arith) }
+    rw (kept, and_mask (c / 2 ^ b) 1, or_shifted (there % 128) 1 (c / 2 ^ b % 2) one) (omega arith)
 
-pub gather_next : (n b : ℕ) (codewords : List ℕ) (m there : ℕ)
-    → gather (suc n) b (drop m codewords) there ≡ gather n b (drop (m + 1) codewords) (there * 2 + bit b (get_or codewords m 0))
+-- where n bits more have room in an octet, none is lost
+kept : (n there b c : ℕ) → (there + 1) * 2 ^ suc n ≤ 256 → ((there * 2 + bit b c) % 256 ≡ there * 2 + bit b c) × ((there * 2 + bit b c + 1) * 2 ^ n ≤ 256)
+unfolding bit
+kept n there b c h =
+    let one : c / 2 ^ b % 2 < 2 = omega arith in
+    let wide = rw (pow-suc 2 n) at h in
+    let room : (there * 2 + 2) * 2 ^ n ≤ 256 = omega arith in
+    let here : (there * 2 + 2) * 1 ≤ (there * 2 + 2) * 2 ^ n = mul-le-mul_left (there * 2 + 2) (pow_mono {i = 0} {j = n} (omega arith)) in
+    let less : (there * 2 + c / 2 ^ b % 2 + 1) * 2 ^ n ≤ (there * 2 + 2) * 2 ^ n = mul-le-mul_right (2 ^ n) (omega arith) in
+    (omega arith, omega arith)
+
+gather_fold : (b : ℕ) (codewords : List ℕ) (there : ℕ) → (there + 1) * 2 ^ length codewords ≤ 256
+    → fold (λ t c. (t * 2 + bit b c) % 256) there codewords ≡ gather (length codewords) b codewords there
 unfolding gather
-gather_next n b codewords m there = rw (drop-drop 1 m codewords, get_or-drop m codewords 0 0, add-zero)
+gather_fold b [] there h = refl
+gather_fold b (c ∷ cs) there h =
+    let k = kept (length cs) there b c h in
+    rw k.0 (gather_fold b cs (there * 2 + bit b c) k.1)
 
-module _ (codewords : List ℕ) (at b : ℕ) where
-  pub record Gathering (i there : ℕ) : Type 0 where
-    pub few : i ≤ group
-    pub rest : gather (group - i) b (drop (at + i) codewords) there ≡ gather group b (drop at codewords) 0
-    pub short : there < 2 ^ i
+pub gathered : (b : ℕ) (codewords : List ℕ) → length codewords ≡ group → fold (λ t c. (t * 2 + bit b c) % 256) 0 codewords ≡ gather group b codewords 0
+gathered b codewords eight = rw eight at (gather_fold b codewords 0 (rw eight (omega arith)))
 
-  pub gathering_none : Gathering 0 0
-  gathering_none = record { few = omega arith; rest = rw add-zero; short = omega arith }
+-- a chunk of eight is gathered as what begins there
+gather_take : (n b : ℕ) (codewords : List ℕ) (there : ℕ) → gather n b (take n codewords) there ≡ gather n b codewords there
+unfolding gather
+gather_take zero b codewords there = refl
+gather_take (suc n) b [] there = refl
+gather_take (suc n) b (c ∷ cs) there = gather_take n b cs (there * 2 + bit b c)
 
-  -- what is there has room for a bit more
-  pub gathering_room : {i there : ℕ} → Gathering i there → i < group → there < 128
-  gathering_room {i} {there} g h = omega (arith, g.short, pow_mono {i = i} {j = 7} (omega arith))
+chunk_at : (k j : ℕ) (codewords : List ℕ) → j < k → get_or (first_chunks group k codewords) j [] ≡ take group (drop (j * group) codewords)
+chunk_at zero j codewords h = absurd (omega (arith, h))
+chunk_at (suc k) zero codewords h = refl
+chunk_at (suc k) (suc j) codewords h =
+    let further : group + j * group ≡ suc j * group = omega arith in
+    chunk_at k j (drop group codewords) (omega arith) ∙ rw (drop-drop (j * group) group codewords, further)
 
-  pub gathering_more : {i there r : ℕ} → Gathering i there → i < group → Shifted there b (get_or codewords (at + i) 0) r → Gathering (i + 1) r
-  gathering_more {i} {there} {r} g h s =
-      let places : group - i ≡ suc (group - (i + 1)) = omega arith in
-      let further : at + i + 1 ≡ at + (i + 1) = add_assoc at i 1 in
-      let up : i + 1 ≡ suc i = omega arith in
-      let step = rw places at g.rest in
-      record {
-        few = omega arith;
-        rest = rw (← further, s.is) (sym (gather_next (group - (i + 1)) b codewords (at + i) there) ∙ step);
-        short = rw up (omega (arith, s.small, g.short, pow-suc 2 i));
-      }
+-- the loop over the groups: j octets stand in the buffer d
+module _ (d codewords : List ℕ) (b : ℕ) where
+  abbrev pub Filling : ℕ → List ℕ → Type 0
+  Filling j out = Filled d (plane (length codewords / group) b codewords) (length codewords / group) j out
 
-  pub gathering_done : {i there : ℕ} → Gathering i there → group ≤ i → there ≡ gather group b (drop at codewords) 0
-  unfolding gather
-  gathering_done {i} {there} g h =
-      let all : group - i ≡ 0 = omega arith in
-      rw all at g.rest
+  pub filling_none : length d ≡ length codewords / group → Filling 0 d
+  filling_none size = filled_none _ _ _ (plane_length (length codewords / group) b codewords) (omega arith)
+
+  pub filling_more : {j v : ℕ} {out : List ℕ} → Filling j out → j < length codewords / group
+      → v ≡ gather group b (get_or (first_chunks group (length codewords / group) codewords) j []) 0 → Filling (j + 1) (set out j v)
+  filling_more {j} f more is =
+      let here = chunk_at (length codewords / group) j codewords more in
+      filled_more _ _ _ 0 f more
+      (is ∙ rw here (gather_take group b (drop (j * group) codewords) 0) ∙ sym (plane_at (length codewords / group) b codewords j more))
+
+  pub filling_done : {j : ℕ} {out : List ℕ} → length d ≡ length codewords / group → Filling j out → length codewords / group ≤ j → out ≡ plane (length codewords / group) b codewords
+  filling_done e f all =
+      let whole : drop (length codewords / group) d ≡ [] = drop_of_length-le d (omega arith) in
+      filled_all _ _ _ f all ∙ rw (whole, append-nil)

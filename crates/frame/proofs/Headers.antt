@@ -6,7 +6,7 @@ use mathlib.Core.List.{List, [], ◌∷◌, ◌++◌, append_assoc}
 use Prim.Native.Nat.{ℕ, ◌+◌, ◌*◌, ◌≤◌, ◌<◌}
 use native.Mathlib.Omega.{arith}
 use lib.ListN.{length, get_or, take, drop, set}
-use lib.Seq.{take_at, drop_at, drop-drop, drop-append-le, take-length, length-take-le}
+use lib.Seq.{take_at, drop_at, drop-drop, drop-append-le, length-take-le}
 use Rattle.words.proofs.Pick.{by_pick, pick_le}
 use Rattle.lists.proofs.Parts.{drop_take}
 use Rattle.frame.specs.declared.header.Header.{Header}
@@ -125,7 +125,3 @@ header_renewed h m frame e long =
     let n = header_length h.edition in
     let there : n ≤ length (take (n + m) frame) = rw (length-take-le (n + m) frame long) (omega arith) in
     rw (drop-append-le n (take (n + m) frame) e there, drop_take n m frame) (sym (append_assoc (header_octets h) (take m (drop n frame)) e))
-
--- what a copy of the first n octets leaves behind it
-pub copied : (n : ℕ) (f d : List ℕ) {out : List ℕ} → n ≤ length f → out ≡ take (length (take n f)) (take n f) ++ drop (length (take n f)) d → out ≡ take n f ++ drop n d
-copied n f d h e = e ∙ rw (take-length (take n f), length-take-le n f h)

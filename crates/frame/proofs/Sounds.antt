@@ -2,13 +2,13 @@
 use mathlib.Core.Bool.{true, not}
 use mathlib.Core.List.{List, [], ◌∷◌}
 use mathlib.Core.Path.{◌≡◌}
-use Prim.Native.Nat.{ℕ, ◌*◌, ◌/◌, ◌%◌}
+use Prim.Native.Nat.{ℕ, ◌*◌, ◌/◌, ◌%◌, ◌≤◌}
 use native.Mathlib.Omega.{arith}
 use lib.Dec.{eqb}
 use borrow.Author.Tests.{ltb-false, le-ltb, eqb-true, eq-eqb, not-false}
-use Rattle.words.specs.First.{Row}
+use Rattle.words.specs.First.{Row, first}
 use Rattle.words.specs.Within.{Within, within}
-use Rattle.words.proofs.First.{NoneApplies, none_apart, none_joined}
+use Rattle.words.proofs.First.{NoneApplies, none_apart, none_joined, first_front}
 use Rattle.words.proofs.Rows.{both}
 use Rattle.words.proofs.Within.{within_says, within_of}
 use Rattle.quantizer.proofs.Pairs.{pair_says, pair_of}
@@ -40,6 +40,11 @@ module _ (h : Header) where
 
     pub sound_none : Sound h n → NoneApplies (frame_rows h n)
     sound_none s = (le-ltb _ _ s.long, none_joined (header_rows h) length_row (header_none s.header) (rw (eq-eqb _ _ s.whole), tt))
+
+    -- where a row of the header's own applies, it is the frame's
+    pub frame_front : fewest ≤ n → (first (header_rows h) ≡ 0 → ⊥) → first (frame_rows h n) ≡ first (header_rows h)
+    unfolding first
+    frame_front long wrong = rw (le-ltb _ _ long) (first_front (header_rows h) length_row wrong)
 
 -- the samples of 1 to 40 whole groups
 pub record Counted (e n : ℕ) : Type 0 where

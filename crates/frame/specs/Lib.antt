@@ -3,4 +3,3 @@ pub mod Planes
 pub mod Read
 pub mod Rows
 pub mod Sound
-pub mod Shifted

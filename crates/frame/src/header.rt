@@ -8,9 +8,9 @@ ghost use Rattle.frame.specs.Rows.{header_rows, frame_rows};
 ghost use Rattle.frame.specs.Sound.{SoundHeader};
 
 use quantizer::pair::is_pair;
-use replies::{Reply, is_done};
+use replies::Refusal;
 
-// The limits of specs/Header.antt
+// The limits of specs/Header.antt. An edition stays a number: it is two bits of a header that anyone may hand in, 0 and 3 too.
 pub const PLAIN: u8 = 1;
 
 pub const NUMBERED: u8 = 2;
@@ -21,9 +21,10 @@ pub const GROUP: usize = 8;
 
 pub const MOST_GROUPS: u8 = 40;
 
+// usize::from is no const fn.
 pub const MOST_SAMPLES: usize = MOST_GROUPS as usize * GROUP;
 
-#[derive(Clone, Copy)]
+#[derive(Clone, Copy, Debug, PartialEq, Eq)]
 pub struct Header {
     pub edition: u8,
     pub width: u8,
@@ -32,6 +33,7 @@ pub struct Header {
     pub number: u8,
 }
 
+#[tactic(auto, unfolding(crate::specs::Header::header_of))]
 pub fn read_header(frame: &[u8]) -> Header
     ensures { result ≡ header_of frame.now }
 {
@@ -50,10 +52,7 @@ pub fn read_header(frame: &[u8]) -> Header
 fn octet_at(frame: &[u8], i: usize) -> u8
     ensures { result ≡ get_or frame.now i 0 }
 {
-    if i < frame.len() {
-        return frame[i];
-    }
-    0
+    frame.get(i).copied().unwrap_or(0)
 }
 
 // The header's first octet
@@ -61,7 +60,7 @@ pub fn head(h: Header) -> u8
     requires { SoundHeader h }
     ensures { result ≡ head h.edition h.width h.core }
 {
-    (h.edition << 6) + h.width * 8 + h.core
+    (h.edition << 6) + (h.width << 3) + h.core
 }
 
 pub fn is_numbered(e: u8) -> bool
@@ -74,103 +73,95 @@ pub fn is_numbered(e: u8) -> bool
 pub fn borne(e: u8, n: u8) -> u8
     ensures { result ≡ borne e n }
 {
-    if is_numbered(e) {
-        return n;
-    }
-    0
+    if is_numbered(e) { n } else { 0 }
 }
 
 // The octets before the planes
+#[tactic(auto, unfolding(crate::specs::Header::header_length))]
 pub fn header_length(e: u8) -> usize
     ensures { result ≡ header_length e }
 {
-    if is_numbered(e) {
-        return 3;
-    }
-    2
+    if is_numbered(e) { 3 } else { 2 }
 }
 
+#[tactic(auto, using(crate::proofs::Headers::header_short))]
 pub fn due_length(h: Header) -> usize
     ensures { result ≡ due_length h }
 {
-    header_length(h.edition) + (h.width as usize) * (h.groups as usize)
+    header_length(h.edition) + usize::from(h.width) * usize::from(h.groups)
 }
 
 pub fn sample_count(h: Header) -> usize
     ensures { result ≡ sample_count h }
 {
-    GROUP * (h.groups as usize)
+    GROUP * usize::from(h.groups)
 }
 
 pub fn is_edition(e: u8) -> bool
     ensures { result ≡ is_edition e }
 {
-    (PLAIN <= e) & (e <= NUMBERED)
+    (PLAIN..=NUMBERED).contains(&e)
 }
 
 // Whether a frame of this edition may have so many groups. Both editions have one limit so far.
+#[tactic(auto, unfolding(crate::specs::Header::most_groups))]
 pub fn is_groups(e: u8, g: u8) -> bool
     ensures { result ≡ is_groups e g }
 {
-    (1 <= g) & (g <= MOST_GROUPS)
+    (1..=MOST_GROUPS).contains(&g)
 }
 
 // Whether a frame of this edition may have so many samples
+#[tactic(auto, unfolding(crate::specs::Header::most_groups))]
 pub fn is_count(e: u8, n: usize) -> bool
     ensures { result ≡ is_count e n }
 {
-    (n % GROUP == 0) & ((GROUP <= n) & (n <= MOST_SAMPLES))
+    n % GROUP == 0 && (GROUP..=MOST_SAMPLES).contains(&n)
 }
 
 // Whether a decoder whose next number is this one takes the frame's
 pub fn is_due(h: Header, number: u8) -> bool
     ensures { result ≡ is_due h number }
 {
-    !is_numbered(h.edition) | (h.number == number)
+    !is_numbered(h.edition) || h.number == number
 }
 
 // The number that is due behind a frame of this edition, where n was
+#[tactic(auto, unfolding(crate::specs::Header::number_after))]
 pub fn number_after(e: u8, n: u8) -> u8
     ensures { result ≡ number_after e n }
 {
-    if !is_numbered(e) {
-        return n;
-    }
-    if n == 255 {
-        return 0;
-    }
-    n + 1
+    if is_numbered(e) { n.wrapping_add(1) } else { n }
 }
 
-// The first row that applies to the header alone
-pub fn header_reply(h: Header) -> Reply
+// Ok, or the first row that applies to the header alone
+#[tactic(auto, unfolding(words::specs::First::first))]
+pub fn header_reply(h: Header) -> Result<(), Refusal>
     ensures { number_of result ≡ first (header_rows h) }
 {
     if !is_edition(h.edition) {
-        return Reply::Header;
+        return Err(Refusal::Header);
     }
     if !is_pair(h.width, h.core) {
-        return Reply::Pair;
+        return Err(Refusal::Pair);
     }
     if !is_groups(h.edition, h.groups) {
-        return Reply::Count;
+        return Err(Refusal::Count);
     }
-    Reply::Done
+    Ok(())
 }
 
-// The first row that applies to a frame of so many octets with this header
-pub fn frame_reply(h: Header, length: usize) -> Reply
+// Ok, or the first row that applies to a frame of so many octets with this header
+#[tactic(auto, using(crate::proofs::Sounds::frame_front, replies::proofs::Answers::refuses), unfolding(words::specs::First::first))]
+pub fn frame_reply(h: Header, length: usize) -> Result<(), Refusal>
     ensures { number_of result ≡ first (frame_rows h length) }
 {
     if length < FEWEST {
-        return Reply::Header;
+        return Err(Refusal::Header);
     }
-    let reply = header_reply(h);
-    if !is_done(reply) {
-        return reply;
-    }
+    header_reply(h)?;
     if length != due_length(h) {
-        return Reply::Length;
+        return Err(Refusal::Length);
     }
-    Reply::Done
+    Ok(())
 }

@@ -18,6 +18,7 @@ pub fn write_frame(codewords: &[u8], h: Header, out: &mut [u8])
     write_planes(codewords, h.width, &mut out[n..]);
 }
 
+#[tactic(auto, using(crate::proofs::Headers::fields_there, crate::proofs::Headers::number_stored, crate::proofs::Headers::fields_stored), unfolding(crate::specs::Header::header_length))]
 fn write_header(h: Header, out: &mut [u8])
     requires { SoundHeader h × (header_length h.edition ≤ length out.old) }
     ensures { out.new ≡ header_octets h ++ drop (header_length h.edition) out.old }

@@ -90,6 +90,19 @@ level_is false m = found (formula false) (formula_mono false) _ tt m (formula_to
 pub level_top : (mu : Bool) (m : ℕ) → level_of (decisions mu) m ≤ 127
 level_top mu m = omega (arith, level_is mu m, formula_top mu m)
 
+-- the same, law by law
+pub level_mu_is : (m : ℕ) → level_of decisions_mu m ≡ formula true m
+level_mu_is m = level_is true m
+
+pub level_A_is : (m : ℕ) → level_of decisions_A m ≡ formula false m
+level_A_is m = level_is false m
+
+pub level_mu_top : (m : ℕ) → level_of decisions_mu m ≤ 127
+level_mu_top m = level_top true m
+
+pub level_A_top : (m : ℕ) → level_of decisions_A m ≤ 127
+level_A_top m = level_top false m
+
 agrees : (mu : Bool) (n m : ℕ) → n < 128 → get_or (decisions mu) n 0 ≤ m
     → (n < 127 → m < get_or (decisions mu) (suc n) 0) → level_of (decisions mu) m ≡ n
 unfolding decisions_mu decisions_A bit_length rows

@@ -13,11 +13,11 @@ next_of t first = pick (eqb t 255) 255 (pick (leb 128 t) (t + 1) (pick (eqb t 0)
 abbrev stepped : ℕ → ℕ → ℕ
 stepped S LAW = pick (eqb LAW 0) (next_of (S ** 127) 129 ** 127) (next_of (S ** 85) 128 ** 85)
 
-pub above_is : (S LAW : ℕ) → S < 256 → stepped S LAW ≡ above S LAW
+pub above_is : (S LAW : ℕ) → S < 256 → above S LAW ≡ stepped S LAW
 unfolding above above_mu above_T
-above_is = agree stepped above (λ i l. simp eqb-suc-zero) 256 tt tt
+above_is = agree above stepped (λ i l. simp eqb-suc-zero) 256 tt tt
 
 -- a level down is a level up on the other side of zero
-pub below_is : (S LAW : ℕ) → S < 256 → above (S ** 128) LAW ** 128 ≡ below S LAW
+pub below_is : (S LAW : ℕ) → S < 256 → below S LAW ≡ above (S ** 128) LAW ** 128
 unfolding above above_mu above_T below below_mu below_T
-below_is = agree (λ i l. above (i ** 128) l ** 128) below (λ i l. simp eqb-suc-zero) 256 tt tt
+below_is = agree below (λ i l. above (i ** 128) l ** 128) (λ i l. simp eqb-suc-zero) 256 tt tt

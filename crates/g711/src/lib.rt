@@ -1,10 +1,11 @@
 // G.711 as G.727 uses it: EXPAND (section 6.2.1), COMPRESS and SYNC's SP+ and SP- (section 6.2.10).
 // Sixteen levels make a segment, whose steps are twice as wide as those of the one before it, so that
-// no table is searched. Law 0 is mu-law, and any other reads as A-law.
+// no table is searched. Law 0 is mu-law, and any other reads as A-law: it stays the number that the Recommendation's signal LAW is,
+// since EXPAND and COMPRESS are promised at every number.
 #![tactic(auto)]
 
 ghost use Rattle.std.specs.Prelude.{◌≡◌, ◌+◌, ◌-◌, ◌*◌, ◌/◌, ◌%◌, ◌^◌, ◌≤◌, ◌<◌, min, eqb, leb, get_or};
-ghost use Rattle.words.specs.Notation.{pick};
+ghost use Rattle.words.specs.Notation.{pick, ◌when◌∣◌};
 ghost use Rattle.words.specs.Length.{bit_length};
 ghost use Rattle.g711.specs.G711.{decisions_mu, decisions_A, outputs_mu, outputs_A};
 ghost use Rattle.g711.specs.Expand.{EXPAND};
@@ -14,14 +15,16 @@ ghost use Rattle.g711.specs.Neighbour.{above, below};
 use words::bits::bit_length;
 use words::choice::choose;
 
+#[tactic(auto, using(crate::proofs::Outputs::output_mu_high, crate::proofs::Outputs::output_A_high, crate::proofs::Outputs::expand_is))]
 pub fn expand(s: u8, law: u8) -> u16
     ensures { result ≡ EXPAND s law }
 {
     if law == 0 {
-        return signed(s < 128, output_mu(((255 - s) % 128) as u16));
+        signed(s < 128, output_mu(u16::from((255 - s) % 128)))
+    } else {
+        let t = s ^ 85;
+        signed(t < 128, output_a(u16::from(t % 128)) * 2)
     }
-    let t = s ^ 85;
-    signed(t < 128, output_a((t % 128) as u16) * 2)
 }
 
 // SL: 14 bits, two's complement
@@ -32,6 +35,7 @@ fn signed(negative: bool, ssq: u16) -> u16
     choose(negative, (16384 - ssq) % 16384, ssq)
 }
 
+#[tactic(auto, using(crate::proofs::Outputs::output_mu_is))]
 fn output_mu(n: u16) -> u16
     requires { n < 128 }
     ensures { result ≡ get_or outputs_mu n 0 }
@@ -39,15 +43,14 @@ fn output_mu(n: u16) -> u16
     middle(n) - 33
 }
 
-// The first segment's steps are as wide as the second's.
+// The first segment's steps are as wide as the second's. That n is below 128 stays a clause of three private functions: a type of its
+// own would be a field and two conversions, and no plainer.
+#[tactic(auto, using(crate::proofs::Outputs::output_A_is))]
 fn output_a(n: u16) -> u16
     requires { n < 128 }
     ensures { result ≡ get_or outputs_A n 0 }
 {
-    if n < 16 {
-        return n * 2 + 1;
-    }
-    middle(n) >> 1
+    if n < 16 { n * 2 + 1 } else { middle(n) >> 1 }
 }
 
 // The two ends of the n-th interval of `chord`, added.
@@ -58,76 +61,68 @@ fn middle(n: u16) -> u16
     (n % 16 * 2 + 33) << (n >> 4)
 }
 
+#[tactic(auto, unfolding(crate::specs::Compress::COMPRESS))]
 pub fn compress(sr: u16, law: u8) -> u8
     ensures { result ≡ COMPRESS sr law }
 {
     if law == 0 {
-        return compress_mu(sr);
+        compress_mu(sr)
+    } else {
+        compress_a(sr)
     }
-    compress_a(sr)
 }
 
+#[tactic(auto, using(crate::proofs::Decisions::level_mu_top), unfolding(crate::specs::Compress::COMPRESS))]
 fn compress_mu(sr: u16) -> u8
     ensures { result ≡ COMPRESS sr 0 }
 {
     if sr >> 15 == 0 {
-        return (255 - level_mu(sr)) as u8;
+        (255 - level_mu(sr)) as u8
+    } else {
+        (127 - level_mu(magnitude(sr))) as u8
     }
-    (127 - level_mu(magnitude(sr))) as u8
 }
 
+#[tactic(auto, using(crate::proofs::Decisions::level_A_top), unfolding(crate::specs::Compress::COMPRESS))]
 fn compress_a(sr: u16) -> u8
     ensures { result ≡ COMPRESS sr 1 }
 {
     if sr >> 15 == 0 {
-        return ((128 + level_a(sr >> 1)) as u8) ^ 85;
+        ((128 + level_a(sr >> 1)) as u8) ^ 85
+    } else {
+        let imag = (magnitude(sr) + 1) >> 1;
+        (level_a(imag.saturating_sub(1)) as u8) ^ 85
     }
-    (level_a(less_one((magnitude(sr) + 1) >> 1)) as u8) ^ 85
 }
 
-// IM of a negative SR
+// IM of a negative SR. That of 32,768 is 0, and so its IMAG, of which COMPRESS takes 1 away, is 0 too.
 fn magnitude(sr: u16) -> u16
     ensures { result ≡ (65536 - sr) % 32768 }
 {
-    ((65536 - (sr as u32)) % 32768) as u16
+    sr.wrapping_neg() % 32768
 }
 
-// IMAG - 1, and 0 at 0, which SR = 32,768 leads to: its IM is 0
-fn less_one(x: u16) -> u16
-    ensures { result ≡ x - 1 }
-{
-    if x == 0 {
-        return 0;
-    }
-    x - 1
-}
-
-fn at_most(x: u16, most: u16) -> u16
-    ensures { result ≡ min x most }
-{
-    if x < most {
-        return x;
-    }
-    most
-}
-
+#[tactic(auto, using(crate::proofs::Decisions::level_mu_is))]
 fn level_mu(imag: u16) -> u16
     ensures { result ≡ level_of decisions_mu imag }
 {
-    chord((at_most(imag, 8158) + 33) >> 1)
+    chord((imag.min(8158) + 33) >> 1)
 }
 
+#[tactic(auto, using(crate::proofs::Decisions::level_A_is))]
 fn level_a(imag: u16) -> u16
     ensures { result ≡ level_of decisions_A imag }
 {
     if imag < 32 {
-        return imag >> 1;
+        imag >> 1
+    } else {
+        chord(imag.min(4095))
     }
-    chord(at_most(imag, 4095))
 }
 
 // The number of the interval that m is in: m's bits tell the segment, and the four behind the leading
 // one the place in it.
+#[tactic(auto, using(crate::proofs::Segments::range))]
 fn chord(m: u16) -> u16
     requires { 16 ≤ m }
     ensures { result ≡ (bit_length m - 5) * 16 + m / 2 ^ (bit_length m - 5) % 16 }
@@ -138,16 +133,19 @@ fn chord(m: u16) -> u16
 
 // Inverted back, a code word is its sign and the number of its level. mu-law's two zeros are one level,
 // so that above the negative one there is level 1.
+#[tactic(auto, using(crate::proofs::Steps::above_is))]
 pub fn above(sp: u8, law: u8) -> u8
     ensures { result ≡ above sp law }
 {
     if law == 0 {
-        return next(sp ^ 127, 129) ^ 127;
+        next(sp ^ 127, 129) ^ 127
+    } else {
+        next(sp ^ 85, 128) ^ 85
     }
-    next(sp ^ 85, 128) ^ 85
 }
 
 // A level down is a level up on the other side of zero.
+#[tactic(auto, using(crate::proofs::Steps::below_is))]
 pub fn below(sp: u8, law: u8) -> u8
     ensures { result ≡ below sp law }
 {
@@ -156,16 +154,12 @@ pub fn below(sp: u8, law: u8) -> u8
 
 // The negative levels count down to 0, above which `first` stands; the positive ones count up to 255.
 fn next(t: u8, first: u8) -> u8
-    ensures { result ≡ pick (eqb t 255) 255 (pick (leb 128 t) (t + 1) (pick (eqb t 0) first (t - 1))) }
+    ensures { result ≡ (255 when eqb t 255 ∣ t + 1 when leb 128 t ∣ first when eqb t 0 ∣ t - 1) }
 {
-    if t == 255 {
-        return 255;
+    match t {
+        255 => 255,
+        128.. => t + 1,
+        0 => first,
+        _ => t - 1,
     }
-    if 128 <= t {
-        return t + 1;
-    }
-    if t == 0 {
-        return first;
-    }
-    t - 1
 }

@@ -6,14 +6,14 @@ use mathlib.Core.Path.{◌≡◌, refl, sym, ◌∙◌}
 use Prim.Native.Nat.{ℕ}
 use lib.IntN.{ℤ}
 use lib.ListN.{length}
-use Rattle.words.specs.Every.{every}
+use Rattle.std.specs.declared.result.Result.{Result}
 use Rattle.g711.specs.Expand.{EXPAND}
 use Rattle.g711.proofs.Extent.{expand_lt}
 use Rattle.linear.specs.Linear.{signed}
 use Rattle.linear.proofs.Levels.{word_level, word_again}
 use Rattle.state.specs.declared.State.{State}
 use Rattle.sample.specs.End.{End, pcm, linear, Sample, is_end}
-use Rattle.replies.specs.declared.Reply.{Reply}
+use Rattle.replies.specs.declared.Refusal.{Refusal}
 use Rattle.replies.specs.Reply.{is_law}
 use Rattle.levels.specs.Levels.{encoded_codewords}
 use Rattle.levels.specs.Encode.{are_taken, levels_of, encode_reply, encode_octets, encode_state, encode_out, Encodes}
@@ -34,7 +34,7 @@ module _ (s : State) (e width : ℕ) (before : List ℕ) {a b : End} {xs : List 
   same_reply = rw (same.known, same.taken, sized)
 
   -- an answer that conforms for the one conforms for the other
-  pub same_answer : {after : List ℕ} {reply : Reply} {n : ℕ} {t : State} → Encodes a s e width xs before after reply n t → Encodes b s e width ys before after reply n t
+  pub same_answer : {after : List ℕ} {done : Result ℕ Refusal} {t : State} → Encodes a s e width xs before after done t → Encodes b s e width ys before after done t
   unfolding encode_octets encode_state encode_out
   same_answer p =
       record {
@@ -54,7 +54,6 @@ module _ (LAW : ℕ) where
   expanded_levels (S ∷ octets) = rw (word_again (EXPAND S LAW) (expand_lt S LAW), expanded_levels octets)
 
   expanded_taken : (octets : List ℕ) → are_taken linear (map (expanded LAW) octets) ≡ true
-  unfolding every
   expanded_taken [] = refl
   expanded_taken (S ∷ octets) = rw (word_level (EXPAND S LAW) (expand_lt S LAW)) (expanded_taken octets)
 
@@ -63,9 +62,9 @@ module _ (LAW : ℕ) where
     expanded_same = record { known = sym known; taken = expanded_taken octets ∙ sym (pcm_taken LAW octets); levels = expanded_levels octets }
 
     -- the linear call of the expanded octets answers as the G.711 call of the octets
-    pub expanded_answer : (s : State) (e width : ℕ) (before after : List ℕ) (reply : Reply) (n : ℕ) (t : State) → Encodes linear s e width (map (expanded LAW) octets) before after reply n t
-        → Encodes (pcm LAW) s e width octets before after reply n t
-    expanded_answer s e width before after reply n t p = same_answer s e width before expanded_same p
+    pub expanded_answer : (s : State) (e width : ℕ) (before after : List ℕ) (done : Result ℕ Refusal) (t : State) → Encodes linear s e width (map (expanded LAW) octets) before after done t
+        → Encodes (pcm LAW) s e width octets before after done t
+    expanded_answer s e width before after done t p = same_answer s e width before expanded_same p
 
     -- of its codewords too, one by one
     pub expanded_codewords : (s : State) (width : ℕ)

@@ -1,6 +1,6 @@
 -- What a 0 of the encoders says of their inputs, and that fit inputs get no other number.
 use mathlib.Core.Bool.{Bool, true, false}
-use mathlib.Core.Path.{◌≡◌, refl, ◌∙◌}
+use mathlib.Core.Path.{◌≡◌, refl, sym, ◌∙◌}
 use Prim.Native.Nat.{ℕ, ◌*◌, ◌/◌, ◌≤◌}
 use native.Mathlib.Omega.{arith}
 use borrow.Author.Tests.{ltb-false, le-ltb, not-false}
@@ -14,6 +14,9 @@ use Rattle.frame.specs.declared.header.Header.{Header}
 use Rattle.frame.specs.Header.{plain, numbered, group, most_groups}
 use Rattle.frame.proofs.Sizes.{groups_most}
 use Rattle.frame.proofs.Sounds.{Counted, count_says, count_of}
+use Rattle.replies.specs.declared.Refusal.{Refusal}
+use Rattle.replies.specs.Reply.{refusal_number}
+use Rattle.replies.proofs.Answers.{refuses}
 use Rattle.levels.specs.Levels.{due_header}
 use Rattle.levels.specs.Encode.{asked_rows, lent_rows, encode_number}
 use Rattle.levels.specs.Inner.{Encodable}
@@ -42,6 +45,9 @@ module _ (known : Bool) (s : State) (e width n : ℕ) where
           },
         )
 
+    pub encode_fits : 0 ≡ encode_number known s e width n taken room → (known ≡ true) × (taken ≡ true) × Encodable s (due_header s e width n) n room
+    encode_fits done = encode_says (sym done)
+
     pub encode_number_of : known ≡ true → taken ≡ true → Encodable s (due_header s e width n) n room → encode_number known s e width n taken room ≡ 0
     unfolding encode_number first
     encode_number_of Known-is taken_is k =
@@ -57,6 +63,14 @@ module _ (known : Bool) (s : State) (e width n : ℕ) where
     pub encode_behind : NoneApplies (asked_rows known s e width n) → encode_number known s e width n taken room ≡ first (lent_rows taken (due_header s e width n) room)
     unfolding encode_number
     encode_behind none = first_behind (asked_rows known s e width n) (lent_rows taken (due_header s e width n) room) none
+
+    -- so a refusal of what is asked is the call's, and where there is none the number of what is lent is
+    pub asked_refused : (r : Refusal) → refusal_number r ≡ first (asked_rows known s e width n) → refusal_number r ≡ encode_number known s e width n taken room
+    asked_refused r is = is ∙ sym (encode_front (λ e. refuses r (is ∙ e)))
+
+    pub asked_done : {number : ℕ} → 0 ≡ first (asked_rows known s e width n) → number ≡ first (lent_rows taken (due_header s e width n) room)
+        → number ≡ encode_number known s e width n taken room
+    asked_done asked lent = lent ∙ sym (encode_behind (first_says _ tt (sym asked)))
 
     -- what is asked being sound, one sample that cannot be taken refuses the call with 11, whatever room there is
     pub sample_refused : NoneApplies (asked_rows known s e width n) → taken ≡ false → encode_number known s e width n taken room ≡ 11

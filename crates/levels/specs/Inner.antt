@@ -3,12 +3,10 @@ use Rattle.std.specs.Prelude.{List, ◌++◌, ◌≡◌, ℕ, ◌≤◌, ◌<◌
 use Rattle.state.specs.declared.memory.Memory.{Memory}
 use Rattle.state.specs.declared.State.{State}
 use Rattle.state.specs.InRange.{InRange}
-use Rattle.sample.specs.End.{End, Sample}
 use Rattle.frame.specs.declared.header.Header.{Header}
 use Rattle.frame.specs.Header.{due_length, sample_count}
 use Rattle.frame.specs.Planes.{frame_of}
 use Rattle.frame.specs.Sound.{SoundHeader}
-use Rattle.levels.specs.Encode.{levels_of}
 use Rattle.levels.specs.Levels.{encoded_memory, encoded_state, encoded_codewords}
 
 -- every level has 14 bits
@@ -24,8 +22,8 @@ pub record Encodable (s : State) (h : Header) (n room : ℕ) : Type 0 where
   pub space : due_length h ≤ room
 
 -- the levels of all samples, in front of what was in the buffer
-pub record LevelsAll (end : End) (samples : List (Sample end)) (before after : List ℕ) : Type 0 where
-  pub out : after ≡ levels_of end samples ++ drop (length samples) before
+pub record LevelsAll (levels before after : List ℕ) : Type 0 where
+  pub out : after ≡ levels ++ drop (length levels) before
 
 pub record EncodesAll (core width : ℕ) (m : Memory) (levels before after : List ℕ) (r : Memory) : Type 0 where
   pub memory : r ≡ encoded_memory core width m levels

@@ -1,53 +1,41 @@
--- Signed numbers as the machine reads and negates them: what comes back from its 16 bits is what went in, and a number that is not negative is cast as it is.
-use mathlib.Core.Bool.{true, false}
-use mathlib.Core.Path.{◌≡◌, refl, ap, subst}
-use Prim.Native.Nat.{ℕ, zero, suc, ◌-◌, ◌≤◌, ◌<◌}
-use native.Mathlib.Omega.{arith}
-use lib.Dec.{T}
-use lib.IntN.{ℤ, pos, negsuc, nat_abs, ◌-ℤ◌, +ℤ_idl}
+-- Signed numbers and the 16 bits that the machine holds them in: what comes back from its bits is what went in.
+use Rattle.std.proofs.Common.{◌≡◌, ℕ, suc, ◌-◌, ◌≤◌, true, false, ltb, ℤ, pos, negsuc, to_z, of_z, w16, ap, subst, arith}
+use lib.IntN.{◌-ℤ◌, +ℤ_idl}
 use lib.Signed.{lt_z}
-use mir.Syntax.{w16}
-use mir.Val.{SFits, to_z, of_z}
-use mir.ValLaws.{to_z-of_z}
-use borrow.Author.Tests.{ltb-true, leb-true}
+use lib.Dec.{T}
+use mir.Val.{SFits}
+use Rattle.std.specs.Int.{int_max, int_min}
+use borrow.Author.Tests.{leb-true, ltb-true}
+use Rattle.words.proofs.Pick.{cases}
 use Rattle.words.proofs.Rows.{both}
-use Rattle.linear.specs.Linear.{is_level, SL}
+use Rattle.linear.specs.Linear.{lowest, highest, is_level, SL, signed, held}
 
--- from the 16 bits of a number back to it
-abbrev pub again : ℤ → ℤ
-again x = to_z w16 (of_z w16 x)
+pub read : (W : ℕ) → signed 16 W ≡ to_z w16 W
+unfolding signed
+read W = cases (ltb W 32768) (λ e. rw e) (λ e. rw e (ap negsuc (omega arith)))
 
-pub same : (x : ℤ) → SFits w16 x → again x ≡ x
-same x fits = to_z-of_z w16 x fits
+-- a level below zero is -(n + 1), and n + 1 where it is negated; the word of any other is its bits
+pub negated_fits : (x : ℤ) → is_level x ≡ true → lt_z x (pos 0) ≡ true → SFits w16 (pos 0 -ℤ x)
+unfolding is_level
+negated_fits (pos n) level t = absurd (omega (arith, ltb-true n 0 t))
+negated_fits (negsuc n) level t = rw (+ℤ_idl (pos (suc n))) (record { sfits = omega (arith, leb-true n 8191 (both _ _ level).0) })
 
--- a level below zero is -(n + 1), n at most 8,191, and n + 1 where it is negated; any other is n
-pub record Below (x : ℤ) : Type 0 where
-  pub n : ℕ
-  pub negated : pos 0 -ℤ x ≡ pos (suc n)
-  pub word : SL x ≡ 16383 - n
-  pub small : n ≤ 8191
+pub negated_small : (x : ℤ) → is_level x ≡ true → lt_z x (pos 0) ≡ true → of_z w16 (pos 0 -ℤ x) ≤ 16384
+unfolding is_level
+negated_small (pos n) level t = absurd (omega (arith, ltb-true n 0 t))
+negated_small (negsuc n) level t = omega (arith, leb-true n 8191 (both _ _ level).0)
 
-pub record AtLeast (x : ℤ) : Type 0 where
-  pub n : ℕ
-  pub is : x ≡ pos n
-  pub word : nat_abs x ≡ SL x
-  pub small : n ≤ 8191
-
-pub below : (x : ℤ) → is_level x ≡ true → lt_z x (pos 0) ≡ true → Below x
+pub negated_word : (x : ℤ) → is_level x ≡ true → lt_z x (pos 0) ≡ true → 16384 - of_z w16 (pos 0 -ℤ x) ≡ SL x
 unfolding is_level SL
-below (pos n) level t = absurd (omega (arith, ltb-true n 0 t))
-below (negsuc n) level t = record { n = n; negated = +ℤ_idl (pos (suc n)); word = refl; small = leb-true n 8191 (both _ _ level).0 }
+negated_word (pos n) level t = absurd (omega (arith, ltb-true n 0 t))
+negated_word (negsuc n) level t = omega (arith, leb-true n 8191 (both _ _ level).0)
 
-pub at_least : (x : ℤ) → is_level x ≡ true → lt_z x (pos 0) ≡ false → AtLeast x
+pub word_kept : (x : ℤ) → is_level x ≡ true → lt_z x (pos 0) ≡ false → of_z w16 x ≡ SL x
 unfolding is_level SL
-at_least (pos n) level t = record { n = n; is = refl; word = refl; small = leb-true n 8191 level }
-at_least (negsuc n) level t = absurd (subst T t tt)
+word_kept (pos n) level t = omega (arith, leb-true n 8191 level)
+word_kept (negsuc n) level t = absurd (subst T t tt)
 
--- -k, and one less
-pub negated_fits : (k : ℕ) → k < 32768 → SFits w16 (pos 0 -ℤ pos k)
-negated_fits zero h = record { sfits = omega arith }
-negated_fits (suc k) h = rw (+ℤ_idl (negsuc k)) (record { sfits = omega arith })
-
-pub one_less : (k : ℕ) → pos 0 -ℤ pos k -ℤ pos 1 ≡ negsuc k
-one_less zero = refl
-one_less (suc k) = rw (+ℤ_idl (negsuc k)) (ap negsuc (omega arith))
+pub clamped : (x : ℤ) → held x ≡ int_max lowest (int_min x highest)
+unfolding held
+clamped (pos n) = cases (ltb 8191 n) (λ e. rw e) (λ e. rw e)
+clamped (negsuc n) = cases (ltb 8191 n) (λ e. rw e) (λ e. rw e)

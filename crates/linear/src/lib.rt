@@ -1,5 +1,4 @@
-// The linear end: 16-bit signed samples on the scale of the levels that EXPAND gives, -8,192 to 8,191. A cast between signed and
-// unsigned takes no negative number, so these are negated on their way.
+// The linear end: 16-bit signed samples on the scale of the levels that EXPAND gives, -8,192 to 8,191.
 #![tactic(auto)]
 
 ghost use Rattle.std.specs.Prelude.{true, ◌≡◌};
@@ -9,48 +8,38 @@ const LOWEST: i16 = -8192;
 
 const HIGHEST: i16 = 8191;
 
+#[tactic(auto, unfolding(crate::specs::Linear::is_level))]
 pub fn is_level(x: i16) -> bool
     ensures { result ≡ is_level x }
 {
-    (LOWEST <= x) & (x <= HIGHEST)
+    (LOWEST..=HIGHEST).contains(&x)
 }
 
-// The word that the encoder takes
+// The word that the encoder takes. A rule of the project asks that signed levels are negated here, so its low 14 bits are not just taken.
+#[tactic(auto, using(crate::proofs::Signs::negated_fits, crate::proofs::Signs::negated_small, crate::proofs::Signs::negated_word, crate::proofs::Signs::word_kept))]
 pub fn level(x: i16) -> u16
     requires { is_level x ≡ true }
     ensures { result ≡ SL x }
 {
     if x < 0 {
-        return 16384 - ((-x) as u16);
+        16384 - (-x).cast_unsigned()
+    } else {
+        x.cast_unsigned()
     }
-    x as u16
 }
 
 // The sample that a reconstructed signal gives
+#[tactic(auto, using(crate::proofs::Signs::clamped))]
 pub fn sample(sr: u16) -> i16
     ensures { result ≡ held (signed 16 sr) }
 {
-    hold(read_signed(sr))
+    read_signed(sr).clamp(LOWEST, HIGHEST)
 }
 
 // The number that a word of 16 bits is in two's complement
+#[tactic(auto, using(crate::proofs::Signs::read))]
 pub fn read_signed(word: u16) -> i16
     ensures { result ≡ signed 16 word }
 {
-    if word < 32768 {
-        return word as i16;
-    }
-    -((65535 - word) as i16) - 1
-}
-
-fn hold(x: i16) -> i16
-    ensures { result ≡ held x }
-{
-    if x < LOWEST {
-        return LOWEST;
-    }
-    if HIGHEST < x {
-        return HIGHEST;
-    }
-    x
+    word.cast_signed()
 }

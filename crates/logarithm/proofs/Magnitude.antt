@@ -22,10 +22,7 @@ module _ (s DQL DQS : ℕ) where
       let DEX : DQL / 128 % 16 ≡ DQL / 128 = omega arith in
       rw (eq-eqb (DQL / 2048) 0 (omega arith), DEX)
 
--- a magnitude of an exponent of at most 14 has 15 bits, and of at most 13 has 14
-pub magnitude_fits : (DQL : ℕ) → DQMAG DQL < 32768
-magnitude_fits DQL = omega (arith, shr_le ((128 + DQL % 128) * 128) (14 - DQL / 128))
-
+-- a magnitude of an exponent of at most 13 has 14 bits
 pub magnitude_small : (DQL : ℕ) → DQL / 128 ≤ 13 → DQMAG DQL < 16384
 magnitude_small DQL h =
     let half : (128 + DQL % 128) * 128 / 2 < 16384 = omega arith in

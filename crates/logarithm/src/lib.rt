@@ -16,6 +16,8 @@ pub struct Logged {
     pub ds: u16,
 }
 
+// SEI as printed in this sub-block; SEI of predictor is the same row.
+#[tactic(auto, unfolding(crate::specs::Difference::SUBTA))]
 pub fn subta(sl: u16, se: u16) -> u16
     requires { (sl < 16384) × (se < 32768) }
     ensures { result ≡ SUBTA sl se }
@@ -25,13 +27,15 @@ pub fn subta(sl: u16, se: u16) -> u16
     minus(sli, sei)
 }
 
+// DQM as printed in this sub-block; FLOATB's magnitude is the same row.
+#[tactic(auto, using(words::proofs::Length::length_word), unfolding(crate::specs::Logarithm::LOG))]
 pub fn log(d: u16) -> Logged
     ensures { result ≡ LOG d }
 {
     let ds = d >> 15;
-    let dqm = choose(ds == 0, d, minus(0, d) % 32768);
+    let dqm = choose(ds == 0, d, d.wrapping_neg() % 32768);
     let exp = bit_length(dqm >> 1);
-    let mant = ((dqm as u32) * 128 >> exp) % 128;
+    let mant = (u32::from(dqm) * 128 >> exp) % 128;
     Logged {
         dl: exp * 128 + (mant as u16),
         ds,
@@ -53,14 +57,16 @@ pub fn adda(dqln: u16, y: u16) -> u16
 }
 
 // DQL is negative, or its exponent is at most 14.
+#[tactic(auto, unfolding(crate::specs::Logarithm::ANTILOG))]
 pub fn antilog(dql: u16, dqs: u16) -> u16
     requires { ((dql + 2048) % 4096 < 3968) × (dql < 4096) × (dqs < 2) }
     ensures { result ≡ ANTILOG 14 dql dqs }
 {
     if 2048 <= dql {
-        return dqs * 16384;
+        dqs * 16384
+    } else {
+        let dex = dql >> 7;
+        let dqt = 128 + dql % 128;
+        dqs * 16384 + (dqt * 128 >> (14 - dex))
     }
-    let dex = dql >> 7;
-    let dqt = 128 + dql % 128;
-    dqs * 16384 + (dqt * 128 >> (14 - dex))
 }

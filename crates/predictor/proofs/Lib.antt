@@ -1,3 +1,2 @@
 pub mod Mantissa
-pub mod Held
 pub mod Range

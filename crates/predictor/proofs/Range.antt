@@ -11,7 +11,7 @@ use Rattle.words.proofs.Pick.{by_pick, pick_lt, bit}
 use Rattle.words.specs.Within.{Within}
 use Rattle.predictor.specs.Sums.{ACCUM, DQI, SEI, ADDB, ADDC}
 use Rattle.predictor.specs.Float.{EXP, MANT, FLOATA, FLOATB, FloatWord}
-use Rattle.predictor.specs.Coefficient.{LIMC, LIMD, TRIGB, UPA1, UPA2, UPB}
+use Rattle.predictor.specs.Coefficient.{LIMC, LIMD, TRIGB, UPA1, FA, UPA2, UPB}
 use Rattle.predictor.specs.Tone.{TONE, TRANS}
 use Rattle.predictor.proofs.Mantissa.{mantissa_range}
 
@@ -76,6 +76,11 @@ upa1_range PK0 PK1 A1 SIGPK = omega arith
 pub upa2_range : (PK0 PK1 PK2 A1 A2 SIGPK : ℕ) → UPA2 PK0 PK1 PK2 A1 A2 SIGPK < 65536
 unfolding UPA2
 upa2_range PK0 PK1 PK2 A1 A2 SIGPK = omega arith
+
+-- f(a1) of UPA2
+pub fa_range : (PKS1 A1 : ℕ) → FA PKS1 A1 < 131072
+unfolding FA
+fa_range PKS1 A1 = grind arith
 
 pub upb_range : (s Un Bn DQ : ℕ) → UPB s Un Bn DQ < 65536
 unfolding UPB

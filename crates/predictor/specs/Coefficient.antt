@@ -26,19 +26,20 @@ LIMD A1T A2P =
 abbrev pub TRIGB : ℕ → ℕ → ℕ
 TRIGB TR AnP = AnP when eqb TR 0 ∣ 0
 
--- ULA1, part of UPA1, and ULBn, part of UPB: the leak factor is 1/256
-unfoldable pub UL : ℕ → ℕ
-UL A =
+-- ULA1, part of UPA1, ULA2, part of UPA2, and ULBn, part of UPB: the leak factor is 1/256 where n is 8, and 1/128 where n is 7. SIGN is the
+-- n ones that extend the sign of a negative A >> n
+unfoldable pub UL : ℕ → ℕ → ℕ → ℕ
+UL n SIGN A =
     let AS = A >> 15 in
-    (65536 - (A >> 8)) % 65536 when eqb AS 0 ∣
-    (65536 - ((A >> 8) + 65280)) % 65536
+    (65536 - (A >> n)) % 65536 when eqb AS 0 ∣
+    (65536 - ((A >> n) + SIGN)) % 65536
 
 -- "Update a1 coefficient of second order predictor": A1T. The gain is 3/256
 unfoldable pub UPA1 : ℕ → ℕ → ℕ → ℕ → ℕ
 UPA1 PK0 PK1 A1 SIGPK =
     let PKS = PK0 ** PK1 in
     let UGA1 : ℕ = 192 when eqb PKS 0 && eqb SIGPK 0 ∣ 65344 when eqb PKS 1 && eqb SIGPK 0 ∣ 0 in
-    let ULA1 = UL A1 in
+    let ULA1 = UL 8 65280 A1 in
     let UA1 = (UGA1 + ULA1) % 65536 in
     (A1 + UA1) % 65536
 
@@ -65,8 +66,7 @@ UPA2 PK0 PK1 PK2 A1 A2 SIGPK =
     let PKS2 = PK0 ** PK2 in
     let UGA2A : ℕ = 16384 when eqb PKS2 0 ∣ 114688 in
     let UGA2B = (UGA2A + FA PKS1 A1) % 131072 in
-    let A2S = A2 >> 15 in
-    let ULA2 = (65536 - (A2 >> 7)) % 65536 when eqb A2S 0 ∣ (65536 - ((A2 >> 7) + 65024)) % 65536 in
+    let ULA2 = UL 7 65024 A2 in
     let UA2 = (UGA2 UGA2B SIGPK + ULA2) % 65536 in
     (A2 + UA2) % 65536
 
@@ -75,7 +75,7 @@ unfoldable pub UPB : ℕ → ℕ → ℕ → ℕ → ℕ
 UPB s Un Bn DQ =
     let DQMAG = DQ % 2 ^ s in
     let UGBn : ℕ = 128 when eqb Un 0 && not (eqb DQMAG 0) ∣ 65408 when eqb Un 1 && not (eqb DQMAG 0) ∣ 0 in
-    let ULBn = UL Bn in
+    let ULBn = UL 8 65280 Bn in
     let UBn = (UGBn + ULBn) % 65536 in
     (Bn + UBn) % 65536
 

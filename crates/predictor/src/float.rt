@@ -1,11 +1,10 @@
 // Float words: FLOATA, FLOATB and FMULT (G.727, section 6.2.7).
-ghost use Rattle.std.specs.Prelude.{◌≡◌, ◌≤◌};
-ghost use Rattle.predictor.specs.Float.{FLOATA, FLOATB, WAnMAG, FMULT};
+ghost use Rattle.std.specs.Prelude.{◌≡◌, ◌+◌, ◌*◌, ◌<◌, ◌≤◌};
+ghost use Rattle.predictor.specs.Float.{EXP, MANT, FLOATA, FLOATB, WAnMAG, FMULT};
 ghost use Rattle.predictor.specs.Inner.{IsFloat};
 
 use words::bits::bit_length;
-use words::choice::{choose, choose_wide};
-use words::wrap::minus;
+use words::choice::choose;
 
 #[derive(Clone, Copy)]
 struct Floating {
@@ -14,42 +13,61 @@ struct Floating {
 }
 
 // A magnitude as exponent and mantissa, "a 1 in the most significant bit", which the three share
+#[tactic(auto, using(words::proofs::Length::length_word, crate::proofs::Mantissa::mantissa_range), unfolding(crate::specs::Float::EXP, crate::specs::Float::MANT, crate::specs::Inner::float_of))]
 fn float_of(mag: u16) -> Floating
     ensures { IsFloat mag result }
 {
     let exp = bit_length(mag);
-    let mant = choose_wide(mag == 0, 32, (mag as u32) * 64 >> exp);
+    let mant = choose(mag == 0, 32, u32::from(mag) * 64 >> exp);
     Floating {
         exp,
         mant: mant as u16,
     }
 }
 
+// A sign and a magnitude, the sign at the top
+#[tactic(auto, unfolding(crate::specs::Inner::float_of))]
+fn float_word(sign: u16, mag: u16) -> u16
+    requires { sign < 4 }
+    ensures { result ≡ sign * 1024 + EXP mag * 64 + MANT mag }
+{
+    let f = float_of(mag);
+    sign * 1024 + f.exp * 64 + f.mant
+}
+
+#[tactic(auto, unfolding(crate::specs::Float::FLOATA))]
 pub fn floata(dq: u16) -> u16
     ensures { result ≡ FLOATA 14 dq }
 {
-    let f = float_of(dq % 16384);
-    (dq >> 14) * 1024 + f.exp * 64 + f.mant
+    float_word(dq >> 14, dq % 16384)
 }
 
+// Its magnitude as printed in this sub-block; LOG's, of another crate, is the same row.
+#[tactic(auto, unfolding(crate::specs::Float::FLOATB))]
 pub fn floatb(sr: u16) -> u16
     ensures { result ≡ FLOATB sr }
 {
-    let f = float_of(choose(sr >> 15 == 0, sr, minus(0, sr) % 32768));
-    (sr >> 15) * 1024 + f.exp * 64 + f.mant
+    float_word(
+        sr >> 15,
+        choose(sr >> 15 == 0, sr, sr.wrapping_neg() % 32768),
+    )
 }
 
 // "Convert floating point to magnitude"
+#[tactic(auto, unfolding(crate::specs::Float::WAnMAG))]
 fn product_magnitude(wanexp: u16, wanmant: u16) -> u16
     requires { (wanexp ≤ 31) × (wanmant ≤ 255) }
     ensures { result ≡ WAnMAG wanexp wanmant }
 {
+    let wide = u32::from(wanmant) * 128;
     if wanexp <= 26 {
-        return ((wanmant as u32) * 128 >> (26 - wanexp)) as u16;
+        (wide >> (26 - wanexp)) as u16
+    } else {
+        ((wide << (wanexp - 26)) % 32768) as u16
     }
-    (((wanmant as u32) * 128 << (wanexp - 26)) % 32768) as u16
 }
 
+#[tactic(auto, unfolding(crate::specs::Float::FMULT, crate::specs::Inner::float_of))]
 pub fn fmult(an: u16, srn: u16) -> u16
     ensures { result ≡ FMULT an srn }
 {
@@ -58,5 +76,5 @@ pub fn fmult(an: u16, srn: u16) -> u16
     let wanexp = (srn >> 6) % 16 + a.exp;
     let wanmant = ((srn % 64) * a.mant + 48) >> 4;
     let wanmag = product_magnitude(wanexp, wanmant);
-    choose((srn >> 10) ^ (an >> 15) == 0, wanmag, minus(0, wanmag))
+    choose((srn >> 10) ^ (an >> 15) == 0, wanmag, wanmag.wrapping_neg())
 }

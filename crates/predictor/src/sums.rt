@@ -1,10 +1,11 @@
 // The sums of the predictor: ACCUM, ADDB and ADDC (G.727, section 6.2.7). DQ is a sign bit at place 14 and a
-// magnitude of 14 bits below it.
+// magnitude of 14 bits below it. That SE and SEZ have 15 bits stays a clause, here and in the crates above, as it does of other words of the
+// Recommendation: these functions are public, and a narrower type would ask more of who calls them.
 ghost use Rattle.std.specs.Prelude.{◌≡◌, ◌<◌};
 ghost use Rattle.predictor.specs.Sums.{ACCUM, DQI, SEI, ADDB, ADDC};
 
 use words::choice::choose;
-use words::wrap::{minus, plus};
+use words::wrap::plus;
 
 #[derive(Clone, Copy)]
 pub struct Estimate {
@@ -18,6 +19,8 @@ pub struct Sign {
     pub sigpk: u16,
 }
 
+// Its eight inputs stay parameters: the Recommendation adds them by name and in this order.
+#[tactic(auto, unfolding(crate::specs::Sums::ACCUM))]
 pub fn accum(
     wa1: u16,
     wa2: u16,
@@ -39,13 +42,15 @@ pub fn accum(
 }
 
 // "Convert signed magnitude to two's complement"
+#[tactic(auto, unfolding(crate::specs::Sums::DQI))]
 fn dqi(dq: u16) -> u16
     ensures { result ≡ DQI 14 dq }
 {
-    choose(dq >> 14 == 0, dq, minus(0, dq % 16384))
+    choose(dq >> 14 == 0, dq, (dq % 16384).wrapping_neg())
 }
 
-// "Sign extension" of a 15-bit word
+// "Sign extension" of a 15-bit word, as printed in ADDB and ADDC; SUBTA, of another crate, has the same row.
+#[tactic(auto, unfolding(crate::specs::Sums::SEI))]
 fn sei(se: u16) -> u16
     requires { se < 32768 }
     ensures { result ≡ SEI se }
@@ -53,6 +58,7 @@ fn sei(se: u16) -> u16
     choose(se >> 14 == 0, se, 32768 + se)
 }
 
+#[tactic(auto, unfolding(crate::specs::Sums::ADDB))]
 pub fn addb(dq: u16, se: u16) -> u16
     requires { se < 32768 }
     ensures { result ≡ ADDB 14 dq se }
@@ -60,6 +66,7 @@ pub fn addb(dq: u16, se: u16) -> u16
     plus(dqi(dq), sei(se))
 }
 
+#[tactic(auto, unfolding(crate::specs::Sums::ADDC))]
 pub fn addc(dq: u16, sez: u16) -> Sign
     requires { sez < 32768 }
     ensures { result ≡ ADDC 14 dq sez }

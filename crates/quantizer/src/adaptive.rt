@@ -9,6 +9,7 @@ use crate::decision::quan;
 use crate::output::reconst;
 use logarithm::{adda, antilog, log, subtb};
 
+#[tactic(auto, unfolding(crate::specs::Adaptive::codeword))]
 pub fn codeword(width: u8, y: u16, d: u16) -> u8
     requires { Within 544 5120 y }
     ensures { result ≡ codeword width y d }
@@ -17,6 +18,7 @@ pub fn codeword(width: u8, y: u16, d: u16) -> u8
     quan(width, subtb(l.dl, y), l.ds)
 }
 
+#[tactic(auto, unfolding(crate::specs::Adaptive::difference))]
 pub fn difference(width: u8, y: u16, i: u8) -> u16
     requires { Within 544 5120 y × Codeword width i }
     ensures { result ≡ difference width y i }

@@ -13,13 +13,11 @@ pub fn half(width: u8) -> u8
 }
 
 // The IM of FUNCTW and FUNCTF, at any width: RECONST's tables go by it too.
+#[tactic(auto, using(crate::proofs::Halves::magnitude_below, crate::proofs::Halves::magnitude_from))]
 pub fn magnitude(width: u8, i: u8) -> u8
     requires { Codeword width i }
     ensures { result ≡ IM_core width i }
 {
     let half = half(width);
-    if i < half {
-        return i;
-    }
-    2 * half - 1 - i
+    if i < half { i } else { 2 * half - 1 - i }
 }

@@ -7,13 +7,11 @@ ghost use Rattle.quantizer.specs.Sync.{IM};
 use crate::codeword::half;
 
 // IM
+#[tactic(auto, using(crate::proofs::Halves::place_below, crate::proofs::Halves::place_from))]
 pub fn order(width: u8, i: u8) -> u8
     requires { Codeword width i }
     ensures { result ≡ IM width i }
 {
     let half = half(width);
-    if i < half {
-        return i + half;
-    }
-    i - half
+    if i < half { i + half } else { i - half }
 }

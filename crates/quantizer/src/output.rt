@@ -18,29 +18,28 @@ const OUTPUTS_5: [u16; 16] = [
     3832, 4035, 34, 97, 145, 184, 217, 246, 273, 298, 321, 344, 367, 391, 419, 456,
 ];
 
+#[tactic(auto, unfolding(crate::specs::Output::RECONST))]
 pub fn reconst(width: u8, i: u8) -> Quantized
     requires { Codeword width i }
     ensures { result ≡ RECONST width i }
 {
     Quantized {
-        dqs: (i >> (width - 1)) as u16,
+        dqs: u16::from(i >> (width - 1)),
         dqln: dqln_of(width, i),
     }
 }
 
+// Not entry_of: RECONST has a row for width 5, FUNCTW and FUNCTF have none.
+#[tactic(auto, using(crate::proofs::Halves::magnitude_small))]
 fn dqln_of(width: u8, i: u8) -> u16
     requires { Codeword width i }
     ensures { result ≡ output (outputs width) i }
 {
-    let m = magnitude(width, i) as usize;
-    if width == 2 {
-        return OUTPUTS_2[m];
+    let m = usize::from(magnitude(width, i));
+    match width {
+        2 => OUTPUTS_2[m],
+        3 => OUTPUTS_3[m],
+        4 => OUTPUTS_4[m],
+        _ => OUTPUTS_5[m],
     }
-    if width == 3 {
-        return OUTPUTS_3[m];
-    }
-    if width == 4 {
-        return OUTPUTS_4[m];
-    }
-    OUTPUTS_5[m]
 }

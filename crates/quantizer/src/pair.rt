@@ -5,5 +5,5 @@ ghost use Rattle.quantizer.specs.Pair.{is_pair};
 pub fn is_pair(width: u8, core: u8) -> bool
     ensures { result ≡ is_pair width core }
 {
-    ((2 <= core) & (core <= 4)) & ((core <= width) & (width <= 5))
+    (2..=4).contains(&core) && (core..=5).contains(&width)
 }

@@ -7,6 +7,9 @@ use lib.Dec.{eqb}
 use borrow.Author.Tests.{eqb-true, eqb-false, eq-eqb, ne_eqb, not-true, not-false}
 use Rattle.words.specs.Notation.{pick}
 use Rattle.words.proofs.Pick.{by_pick}
+use Rattle.replies.specs.declared.Refusal.{Refusal}
+use Rattle.replies.specs.declared.Refusal.TheVariants.{Pair, Count, Room, Range, Header, Length, Core, Target, Law, Number, Sample}
+use Rattle.replies.specs.Reply.{refusal_number}
 
 module _ {A : Type 0} (n : ℕ) (a b : A) where
   pub refusal : (n ≡ 0 → ⊥) → b ≡ pick (eqb n 0) a b
@@ -15,13 +18,27 @@ module _ {A : Type 0} (n : ℕ) (a b : A) where
   pub success : n ≡ 0 → a ≡ pick (eqb n 0) a b
   success e = simp (eq-eqb n 0 e)
 
--- what `is_done` decides of a reply whose number is m, either way
+-- what a test of 0 decides of a reply whose number is m, either way
 module _ {done : Bool} {n m : ℕ} (is : done ≡ eqb n 0) (number : n ≡ m) where
   pub is_refusal : not done ≡ true → m ≡ 0 → ⊥
   is_refusal t e = eqb-false n 0 (sym is ∙ not-true done t) (number ∙ e)
 
   pub is_success : not done ≡ false → m ≡ 0
   is_success t = sym number ∙ eqb-true n 0 (sym is ∙ not-false done t)
+
+-- no refusal has the number of what is done
+pub refuses : (r : Refusal) → refusal_number r ≡ 0 → ⊥
+refuses Pair e = omega (arith, e)
+refuses Count e = omega (arith, e)
+refuses Room e = omega (arith, e)
+refuses Range e = omega (arith, e)
+refuses Header e = omega (arith, e)
+refuses Length e = omega (arith, e)
+refuses Core e = omega (arith, e)
+refuses Target e = omega (arith, e)
+refuses Law e = omega (arith, e)
+refuses Number e = omega (arith, e)
+refuses Sample e = omega (arith, e)
 
 -- a count that is reported with a 0 only
 pub counted : (n count room : ℕ) → (n ≡ 0 → count ≤ room) → pick (eqb n 0) count 0 ≤ room

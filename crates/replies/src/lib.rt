@@ -1,13 +1,15 @@
-// The replies that every call answers with, and their numbers; specs/Reply.antt has the number of each.
+// Why a call refuses what it is handed, and the number of each refusal; specs/Reply.antt has the numbers.
 #![tactic(auto)]
 
-ghost use Rattle.std.specs.Prelude.{◌≡◌, eqb};
-ghost use Rattle.replies.specs.Reply.{is_law, number_of};
+ghost use Rattle.std.specs.Prelude.{◌≡◌};
+ghost use Rattle.replies.specs.Reply.{is_law, number_of, refusal_number};
 
-#[derive(Clone, Copy)]
-pub enum Reply {
-    Done,
-    Pair,
+use std::error::Error;
+use std::fmt;
+
+#[derive(Clone, Copy, Debug, PartialEq, Eq)]
+pub enum Refusal {
+    Pair = 1,
     Count,
     Room,
     Range,
@@ -20,30 +22,44 @@ pub enum Reply {
     Sample,
 }
 
-// The number of a reply, for whoever prints or sends it.
-pub fn number_of(reply: Reply) -> u8
-    ensures { result ≡ number_of reply }
-{
-    match reply {
-        Reply::Done => 0,
-        Reply::Pair => 1,
-        Reply::Count => 2,
-        Reply::Room => 3,
-        Reply::Range => 4,
-        Reply::Header => 5,
-        Reply::Length => 6,
-        Reply::Core => 7,
-        Reply::Target => 8,
-        Reply::Law => 9,
-        Reply::Number => 10,
-        Reply::Sample => 11,
+impl Refusal {
+    // For whoever prints or sends it
+    pub fn number(self) -> u8
+        ensures { result ≡ refusal_number self }
+    {
+        self as u8
     }
 }
 
-pub fn is_done(reply: Reply) -> bool
-    ensures { result ≡ eqb (number_of reply) 0 }
+// Its row of the table of replies
+impl fmt::Display for Refusal {
+    fn fmt<W: fmt::Write>(&self, f: &mut fmt::Formatter<W>) -> fmt::Result {
+        f.write_str(match self {
+            Refusal::Pair => "width or core not one of the nine pairs",
+            Refusal::Count => "sample count not a multiple of 8 from 8 to 320, or g not 1 to 40",
+            Refusal::Room => "out buffer shorter than the result",
+            Refusal::Range => "a state variable outside its range",
+            Refusal::Header => "fewer than 2 octets, or edition neither 01 nor 10",
+            Refusal::Length => "length not 2 + x times g in edition 1, 3 + x times g in edition 2",
+            Refusal::Core => "frame's core differs from the state's",
+            Refusal::Target => "target width below y or above x",
+            Refusal::Law => "law not 0 (mu) or 1 (A)",
+            Refusal::Number => "frame's number is not the next one of the state",
+            Refusal::Sample => "a linear sample not from -8192 to 8191",
+        })
+    }
+}
+
+impl Error for Refusal {}
+
+// The number of a reply: 0 where what was asked is done
+pub fn number_of<T: Drop>(done: &Result<T, Refusal>) -> u8
+    ensures { result ≡ number_of done.now }
 {
-    number_of(reply) == 0
+    match done {
+        Ok(_) => 0,
+        Err(refusal) => refusal.number(),
+    }
 }
 
 pub fn is_law(law: u8) -> bool

@@ -2,10 +2,10 @@
 use mathlib.Core.Path.{◌≡◌, sym, ◌∙◌}
 use Prim.Native.Nat.{ℕ}
 use Rattle.replies.proofs.Equal.{reply_equal}
-use Rattle.reset.specs.declared.ResetAnswer.{ResetAnswer}
+use Rattle.state.specs.declared.answer.Answer.{Answer}
 use Rattle.reset.specs.Reset.{Resets}
 
-pub reset_equal : (core : ℕ) (a b : ResetAnswer) → Resets core a → Resets core b → a ≡ b
+pub reset_equal : (core : ℕ) (a b : Answer ℕ) → Resets core a → Resets core b → a ≡ b
 reset_equal core a b p q =
-    let reply = reply_equal a.reply b.reply (p.number ∙ sym q.number) in
-    λ i. record { reply = reply i; octets = (p.octets ∙ sym q.octets) i; state = (p.state ∙ sym q.state) i }
+    let done = reply_equal a.done b.done (p.number ∙ sym q.number) (λ x y e f. rw e at p.octets ∙ sym (rw f at q.octets)) in
+    λ i. record { state = (p.state ∙ sym q.state) i; done = done i }

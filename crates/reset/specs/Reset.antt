@@ -5,8 +5,8 @@ use Rattle.words.specs.Notation.{pick}
 use Rattle.words.specs.Within.{within}
 use Rattle.state.specs.declared.State.{State}
 use Rattle.state.specs.Reset.{reset_of}
-use Rattle.reset.specs.declared.ResetAnswer.{ResetAnswer}
-use Rattle.replies.specs.Reply.{number_of}
+use Rattle.state.specs.declared.answer.Answer.{Answer}
+use Rattle.replies.specs.Reply.{number_of, reported}
 
 module _ (core : ℕ) where
   unfoldable pub reset_number : ℕ
@@ -15,7 +15,7 @@ module _ (core : ℕ) where
   unfoldable pub reset_state : State
   reset_state = pick (eqb reset_number 0) (reset_of core) (reset_of 2)
 
-  pub record Resets (r : ResetAnswer) : Type 0 where
-    pub number : number_of r.reply ≡ reset_number
-    pub octets : r.octets ≡ 0
+  pub record Resets (r : Answer ℕ) : Type 0 where
+    pub number : number_of r.done ≡ reset_number
+    pub octets : reported (λ octets. octets) r.done ≡ 0
     pub state : r.state ≡ reset_state

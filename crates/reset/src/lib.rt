@@ -1,39 +1,26 @@
 // The call reset: its reply and the state that it hands out (specs/Reset.antt).
 #![tactic(auto)]
 
-ghost use Rattle.std.specs.Prelude.{◌≡◌};
-ghost use Rattle.words.specs.Within.{within};
 ghost use Rattle.reset.specs.Reset.{Resets};
 
-use replies::Reply;
+use replies::Refusal;
 use state::State;
+use state::answer::Answer;
 
-#[derive(Clone, Copy)]
-pub struct ResetAnswer {
-    pub reply: Reply,
-    pub octets: usize,
-    pub state: State,
-}
-
-pub fn reset(core: u8) -> ResetAnswer
+#[tactic(auto, unfolding(crate::specs::Reset::reset_number, crate::specs::Reset::reset_state, words::specs::First::first))]
+pub fn reset(core: u8) -> Answer<usize>
     ensures { Resets core result }
 {
-    if !is_core(core) {
-        return ResetAnswer {
-            reply: Reply::Pair,
-            octets: 0,
+    if state::is_core(core) {
+        Answer {
+            state: state::reset(core),
+            // Octets, always 0, as docs/RULES.md lists its answer
+            done: Ok(0),
+        }
+    } else {
+        Answer {
             state: state::reset(2),
-        };
+            done: Err(Refusal::Pair),
+        }
     }
-    ResetAnswer {
-        reply: Reply::Done,
-        octets: 0,
-        state: state::reset(core),
-    }
-}
-
-fn is_core(core: u8) -> bool
-    ensures { result ≡ within 2 4 core }
-{
-    (2 <= core) & (core <= 4)
 }

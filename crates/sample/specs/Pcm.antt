@@ -10,7 +10,7 @@ use Rattle.logarithm.specs.Logarithm.{LOG, SUBTB}
 use Rattle.quantizer.specs.Adaptive.{codeword}
 use Rattle.quantizer.specs.Sync.{IM, ID}
 use Rattle.state.specs.declared.memory.Memory.{Memory}
-use Rattle.sample.specs.declared.pcm.Played.{Played}
+use Rattle.sample.specs.declared.end.Heard.{Heard}
 use Rattle.sample.specs.Decode.{decode_of}
 
 -- SYNC's move, by the places ID and IM: SP+, SP or SP-
@@ -39,16 +39,16 @@ module _ (LAW width Y SE : ℕ) where
 
 module _ (LAW core width : ℕ) where
   -- a codeword played: the final byte, 1 where the one that COMPRESS gave disagrees with the codeword, and the next memory
-  unfoldable pub play_of : Memory → ℕ → Played
+  unfoldable pub play_of : Memory → ℕ → Heard ℕ
   play_of m I =
       let d = decode_of core width m I in
       let sp = COMPRESS d.sr LAW in
       let sd = SD LAW width d.y d.se I sp in
-      record { byte = sd; disagreement = disagreement LAW width d.y d.se I sp; memory = d.memory }
+      record { sample = sd; disagreement = disagreement LAW width d.y d.se I sp; memory = d.memory }
 
   -- as a step of a run: what is put out, and what is counted
   abbrev pub byte_of : Memory → ℕ → ℕ
-  byte_of m I = (play_of m I).byte
+  byte_of m I = (play_of m I).sample
 
   abbrev pub disagreement_of : Memory → ℕ → ℕ
   disagreement_of m I = (play_of m I).disagreement

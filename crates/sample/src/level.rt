@@ -61,6 +61,7 @@ pub fn decode_level(m: Memory, core: u8, width: u8, i: u8) -> Decoded
 }
 
 // The bit masking of section 6.2.3: what alone moves the memory
+#[tactic(auto, unfolding(crate::specs::Core::Ic))]
 fn core_bits(core: u8, width: u8, i: u8) -> u8
     requires { Pair width core }
     ensures { result ≡ Ic core width i }
@@ -82,6 +83,7 @@ fn step(m: Memory, e: Estimated, core: u8, ic: u8) -> Memory
     )
 }
 
+#[tactic(auto, unfolding(crate::specs::Decode::SR_FF))]
 fn output_signal(width: u8, y: u16, se: u16, i: u8) -> u16
     requires { Within 544 5120 y × (se < 32768) × Codeword width i }
     ensures { result ≡ SR_FF width y se i }

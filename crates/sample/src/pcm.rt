@@ -10,20 +10,16 @@ ghost use Rattle.state.specs.InRange.{MemoryInRange};
 ghost use Rattle.sample.specs.Encode.{encode_of};
 ghost use Rattle.sample.specs.Pcm.{move_of, requantized, play_of};
 
+use crate::end::Heard;
 use crate::level::{Encoded, decode_level, encode_level};
 use g711::{above, below, compress, expand};
 use logarithm::subta;
 use quantizer::adaptive::codeword;
 use quantizer::order::order;
 use state::memory::Memory;
+use std::cmp::Ordering;
 
-#[derive(Clone, Copy)]
-pub struct Played {
-    pub byte: u8,
-    pub disagreement: u8,
-    pub memory: Memory,
-}
-
+#[tactic(auto, using(g711::proofs::Extent::expand_lt))]
 pub fn encode_byte(m: Memory, core: u8, law: u8, width: u8, byte: u8) -> Encoded
     requires { MemoryInRange m × Pair width core }
     ensures { result ≡ encode_of core width m (EXPAND byte law) }
@@ -31,7 +27,7 @@ pub fn encode_byte(m: Memory, core: u8, law: u8, width: u8, byte: u8) -> Encoded
     encode_level(m, core, width, expand(byte, law))
 }
 
-pub fn decode_byte(m: Memory, core: u8, law: u8, width: u8, i: u8) -> Played
+pub fn decode_byte(m: Memory, core: u8, law: u8, width: u8, i: u8) -> Heard<u8>
     requires { MemoryInRange m × Pair width core × Codeword width i }
     ensures { result ≡ play_of law core width m i }
 {
@@ -39,15 +35,15 @@ pub fn decode_byte(m: Memory, core: u8, law: u8, width: u8, i: u8) -> Played
     let sp = compress(d.sr, law);
     let j = requantized(law, width, d.y, d.se, sp);
     let sd = adjusted(law, width, j, i, sp);
-    let next = d.memory;
-    Played {
-        byte: sd,
-        disagreement: differs(j, i),
-        memory: next,
+    Heard {
+        sample: sd,
+        disagreement: u8::from(j != i),
+        memory: d.memory,
     }
 }
 
 // The codeword that an encoder at this scale factor and estimate would make of the byte
+#[tactic(auto, using(g711::proofs::Extent::expand_lt), unfolding(crate::specs::Pcm::DX, crate::specs::Pcm::requantized))]
 pub fn requantized(law: u8, width: u8, y: u16, se: u16, sp: u8) -> u8
     requires { Within 544 5120 y × (se < 32768) }
     ensures { result ≡ requantized law width y se sp }
@@ -56,6 +52,7 @@ pub fn requantized(law: u8, width: u8, y: u16, se: u16, sp: u8) -> u8
 }
 
 // SYNC's move, by the codeword that the byte requantizes to and the received one. Most bytes requantize to the received one, and no place is looked up.
+#[tactic(auto, using(crate::proofs::Adjusting::stays))]
 fn adjusted(law: u8, width: u8, j: u8, i: u8, sp: u8) -> u8
     requires { Codeword width j × Codeword width i }
     ensures { result ≡ move_of (IM width j) (IM width i) sp law }
@@ -66,23 +63,13 @@ fn adjusted(law: u8, width: u8, j: u8, i: u8, sp: u8) -> u8
     moved_byte(order(width, j), order(width, i), sp, law)
 }
 
+#[tactic(auto, unfolding(crate::specs::Pcm::move_of))]
 fn moved_byte(id: u8, im: u8, sp: u8, law: u8) -> u8
     ensures { result ≡ move_of id im sp law }
 {
-    if id < im {
-        return above(sp, law);
+    match id.cmp(&im) {
+        Ordering::Less => above(sp, law),
+        Ordering::Equal => sp,
+        Ordering::Greater => below(sp, law),
     }
-    if id == im {
-        return sp;
-    }
-    below(sp, law)
-}
-
-fn differs(a: u8, b: u8) -> u8
-    ensures { result ≡ pick (eqb a b) 0 1 }
-{
-    if a == b {
-        return 0;
-    }
-    1
 }

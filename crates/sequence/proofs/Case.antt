@@ -1,14 +1,11 @@
 -- Both cases of letter read alike: whatever changes neither a character's digit nor whether it is a line feed changes nothing of what is read.
-use Rattle.std.proofs.Common.{◌≡◌, ℕ, suc, ◌+◌, ◌-◌, Bool, true, false, eqb, List, [], ◌∷◌, ◌++◌, map, length, sym, refl, ◌∙◌, arith, ne_eqb}
+use Rattle.std.proofs.Common.{◌≡◌, ℕ, suc, ◌+◌, Bool, true, false, eqb, List, [], ◌∷◌, ◌++◌, map, length, refl, arith}
+use Rattle.std.proofs.lemmas.Bool.Decides.{nat_tests}
 use lib.ListN.{length-map}
 use Rattle.words.specs.Notation.{pick}
-use Rattle.words.specs.Within.{within}
-use Rattle.words.proofs.Pick.{by_pick}
-use Rattle.words.proofs.Within.{within_says}
 use Rattle.sequence.specs.Limits.{line_feed}
 use Rattle.sequence.specs.Digits.{digit_of, upper}
 use Rattle.sequence.specs.Text.{Outcome, values_of, characters, onto, lines_of, lines, read_of}
-use Rattle.sequence.proofs.Characters.{digit_capital, digit_small}
 
 module _ (f : ℕ → ℕ) where
   onto_changed : (c : ℕ) (ls : List (List ℕ)) → onto (f c) (map (map f) ls) ≡ map (map f) (onto c ls)
@@ -50,21 +47,11 @@ module _ (f : ℕ → ℕ) where
       read_alike text = rw (lines_changed text, lines_alike 0 [] (lines_of text)) (characters_alike 0 0 text (lines 0 [] (lines_of text)))
 
 upper_digit : (c : ℕ) → digit_of (upper c) ≡ digit_of c
-upper_digit c =
-    by_pick (λ (x : ℕ). digit_of x ≡ digit_of c) (within 97 102 c) (c - 32) c
-    (λ e.
-    let small = within_says 97 102 c e in
-    let same : c - 32 - 65 + 10 ≡ c - 97 + 10 = omega arith in
-    sym (digit_capital (c - 32) (omega arith) (omega arith)) ∙ same ∙ digit_small c small.low small.high)
-    (λ e. refl)
+unfolding digit_of
+upper_digit c = grind (arith, nat_tests)
 
 upper_feed : (c : ℕ) → eqb (upper c) line_feed ≡ eqb c line_feed
-upper_feed c =
-    by_pick (λ (x : ℕ). eqb x line_feed ≡ eqb c line_feed) (within 97 102 c) (c - 32) c
-    (λ e.
-    let small = within_says 97 102 c e in
-    ne_eqb (c - 32) line_feed (λ q. omega arith) ∙ sym (ne_eqb c line_feed (λ q. omega arith)))
-    (λ e. refl)
+upper_feed c = grind (arith, nat_tests)
 
 pub case_alike : (text : List ℕ) → read_of (map upper text) ≡ read_of text
 case_alike = read_alike upper upper_feed upper_digit

@@ -1,16 +1,13 @@
 -- What is handed out is never taken back: it is the front of the values of every sound text that begins so. A refused reader answers every call alike. And FF is
 -- no remainder.
-use Rattle.std.proofs.Common.{◌≡◌, ℕ, ◌%◌, ◌^◌, ◌<◌, true, ◌&&◌, eqb, List, [], ◌∷◌, ◌++◌, length, sym, refl, ap, ◌∙◌, append_assoc, arith, eqb-true}
+use Rattle.std.proofs.Common.{◌≡◌, ℕ, ◌%◌, ◌^◌, ◌<◌, true, ◌&&◌, eqb, List, [], ◌∷◌, ◌++◌, length, sym, refl, ap, ◌∙◌, append_assoc, arith, eqb-true, Ok, Err}
 use Rattle.words.proofs.Pick.{cases}
 use Rattle.lists.specs.Run.{last}
 use Rattle.sequence.specs.Limits.{modulus}
 use Rattle.sequence.specs.Piece.{stop}
 use Rattle.sequence.specs.Reading.{is_refused, next, given, handed_out, beginning, reading, end_of}
-use Rattle.sequence.specs.Text.{outcome_of, Values, read_of}
-use Rattle.sequence.specs.declared.reader.Verdict.{Verdict}
-use Rattle.sequence.specs.declared.reader.Verdict.TheVariants.{Sound, Refused}
+use Rattle.sequence.specs.Text.{Verdict, outcome_of, Values, read_of}
 use Rattle.sequence.specs.declared.reader.Reader.{Reader}
-use Rattle.sequence.proofs.Contrary.{contrary}
 use Rattle.sequence.proofs.Refusing.{refused_next}
 use Rattle.sequence.proofs.Taking.{reading_refused}
 use Rattle.sequence.proofs.Whole.{read_whole}
@@ -23,8 +20,8 @@ handed_append r (c ∷ xs) ys =
     ∙ sym (append_assoc (given r c) (handed_out (next r c) xs) (handed_out (last next (next r c) xs) ys))
 
 sound_values : (v : Verdict) (hs vs : List ℕ) → outcome_of hs v ≡ Values vs → hs ≡ vs
-sound_values Sound hs vs e = cc
-sound_values (Refused why place) hs vs e = absurd (let z : ◌≡◌ {A = ℕ} 0 1 = cc in omega arith)
+sound_values (Ok _) hs vs e = cc
+sound_values (Err fault) hs vs e = cc
 
 pub handed_in_front : (xs ys vs : List ℕ) → length (xs ++ ys) < 2 ^ 64 → read_of (xs ++ ys) ≡ Values vs → vs ≡ handed_out beginning xs ++ handed_out (last next beginning xs) ys
 handed_in_front xs ys vs bound e =
@@ -37,14 +34,14 @@ refused_reads room r (c ∷ cs) e =
     let same = refused_next r e c in
     reading_refused room r c cs (ap (λ (s : Reader). is_refused s.verdict) same ∙ e) ∙ ap stop same
 
-pub remainder_below : (r : Reader) → end_of r ≡ Sound → r.held < 255
+pub remainder_below : (r : Reader) → end_of r ≡ Ok tt → r.held < 255
 unfolding end_of
 remainder_below r e =
     cases (is_refused r.verdict)
-    (λ t. absurd (contrary t (ap is_refused (rw t at e))))
+    (λ t. cc (t, ap is_refused (rw t at e)))
     (λ t.
     cases (eqb r.column 0 && r.holds)
     (λ u.
     cases (eqb r.held (r.sum % modulus)) (λ w. let same = eqb-true r.held (r.sum % modulus) w in omega arith)
-    (λ w. let z : ◌≡◌ {A = ℕ} 0 1 = cc (rw (t, u, w) at e) in absurd (omega arith)))
-    (λ u. let z : ◌≡◌ {A = ℕ} 0 1 = cc (rw (t, u) at e) in absurd (omega arith)))
+    (λ w. cc (rw (t, u, w) at e)))
+    (λ u. cc (rw (t, u) at e)))

@@ -1,4 +1,3 @@
-pub mod Contrary
 pub mod Characters
 pub mod Rows
 pub mod Underway

@@ -4,10 +4,9 @@ use Rattle.words.proofs.Pick.{by_pick}
 use Rattle.lists.specs.Run.{last}
 use Rattle.sequence.specs.Limits.{line_feed, longest, is_whole}
 use Rattle.sequence.specs.Digits.{digit_of, is_digit}
-use Rattle.sequence.specs.Reading.{is_refused, kept, first_digit, second_digit, with_digit, step_of, next, given_of, given, handed_out, end_of}
+use Rattle.sequence.specs.Reading.{is_refused, first_digit, second_digit, with_digit, step_of, next, given_of, given, handed_out, end_of}
 use Rattle.sequence.specs.declared.reader.Reader.{Reader}
 use Rattle.sequence.specs.declared.step.Stepped.{Stepped}
-use Rattle.sequence.proofs.Contrary.{contrary}
 use Rattle.sequence.proofs.Rows.{step_refused}
 
 module _ (r : Reader) (is : is_refused r.verdict ≡ true) where
@@ -35,17 +34,13 @@ module _ (r : Reader) (is : is_refused r.verdict ≡ true) where
 Quiet : Stepped → Type 0
 Quiet s = is_refused s.reader.verdict ≡ true → given_of s ≡ []
 
-quiet_kept : (r : Reader) → Quiet (kept r)
-unfolding Quiet
-quiet_kept r e = refl
-
 module _ (r : Reader) (sound : is_refused r.verdict ≡ false) where
   quiet_digit : (d : ℕ) → Quiet (with_digit r d)
   unfolding Quiet with_digit first_digit second_digit
   quiet_digit d =
       by_pick Quiet (eqb (r.column % 2) 0) _ _
-      (λ t. by_pick Quiet r.holds _ _ (λ u e. absurd (contrary e sound)) (λ u e. refl))
-      (λ t. by_pick Quiet (eqb r.column 1) _ _ (λ u e. refl) (λ u e. absurd (contrary e sound)))
+      (λ t. by_pick Quiet r.holds _ _ (λ u e. cc (e, sound)) (λ u e. refl))
+      (λ t. by_pick Quiet (eqb r.column 1) _ _ (λ u e. refl) (λ u e. cc (e, sound)))
 
 pub refusing_gives : (r : Reader) (c : ℕ) → is_refused (next r c).verdict ≡ true → given r c ≡ []
 unfolding Quiet step_of

@@ -1,5 +1,5 @@
 -- Where the value stands that was handed out last: at `last_place`, two characters of the text, which are its digits.
-use Rattle.std.proofs.Common.{◌≡◌, ℕ, suc, ◌+◌, ◌-◌, ◌*◌, ◌%◌, ◌^◌, ◌<◌, ◌≤◌, Bool, true, false, ◌&&◌, eqb, leb, List, [], ◌∷◌, ◌++◌, length, get_or, sym, refl, ◌∙◌, subst, append_assoc, append-nil, arith, length-append, eq-eqb, ne_eqb, eqb-true, le-leb, leb-true}
+use Rattle.std.proofs.Common.{◌≡◌, ℕ, suc, ◌+◌, ◌-◌, ◌*◌, ◌%◌, ◌^◌, ◌<◌, ◌≤◌, Bool, true, false, ◌&&◌, eqb, leb, List, [], ◌∷◌, ◌++◌, length, get_or, sym, refl, ◌∙◌, subst, append_assoc, append-nil, arith, length-append, eq-eqb, ne_eqb, eqb-true, le-leb, leb-true, Ok}
 use native.Mathlib.Decide.{dec_le}
 use lib.ListN.{get_or-append}
 use lib.Seq.{get_or_at}
@@ -12,7 +12,6 @@ use Rattle.sequence.specs.Digits.{digit_of}
 use Rattle.sequence.specs.Reading.{is_refused, refused, line_ended, kept, handed, begun, first_digit, held_back, completed, second_digit, joined, with_digit, step_of, next, given_of, handed_out, beginning, last_place}
 use Rattle.sequence.specs.declared.reader.Refusal.{Refusal}
 use Rattle.sequence.specs.declared.reader.Refusal.TheVariants.{BadCharacter, LineTooLong}
-use Rattle.sequence.specs.declared.reader.Verdict.TheVariants.{Sound}
 use Rattle.sequence.specs.declared.reader.Reader.{Reader}
 use Rattle.sequence.specs.declared.step.Stepped.{Stepped}
 use Rattle.sequence.proofs.Rows.{step_line, step_bad, step_long, step_digit}
@@ -65,7 +64,7 @@ module _ (t : List ℕ) (c : ℕ) where
 
 -- what a sound reader's numbers say of the characters t that it has read, and of the values H that it has handed out
 pub record Read (t : List ℕ) (r : Reader) (n : ℕ) (holds : Bool) : Type 0 where
-  pub sound : r.verdict ≡ Sound
+  pub sound : r.verdict ≡ Ok tt
   pub size : r.line + n ≡ length t
   pub column : r.column ≡ n
   pub holds_is : r.holds ≡ holds
@@ -79,7 +78,7 @@ module _ (t : List ℕ) (r : Reader) (H : List ℕ) where
     odd : (n : ℕ) → Read t r n false → 3 ≤ n → n % 2 ≡ 1 → (q : ℕ) → suc q ≡ length t → r.high ≡ digit_of (get_or t q 0) → digit_of (get_or t q 0) < 16 → Lastly t H (r.line + n) 3 → Form
     even : (n : ℕ) → Read t r n false → 4 ≤ n → n % 2 ≡ 0 → Lastly t H (r.line + n) 2 → Form
 
-  form_sound : Form → r.verdict ≡ Sound
+  form_sound : Form → r.verdict ≡ Ok tt
   form_sound (start a l) = a.sound
   form_sound (alone a q e h l) = a.sound
   form_sound (first a h d l) = a.sound

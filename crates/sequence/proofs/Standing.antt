@@ -1,23 +1,21 @@
 -- Where a reader stands in a text, and that it then finds what the whole text's definition says of the rest: in a line behind whole values, in a line behind
 -- half a value, or behind a line that held one value alone.
-use Rattle.std.proofs.Common.{◌≡◌, ℕ, suc, ◌+◌, ◌*◌, ◌%◌, ◌^◌, ◌<◌, ◌≤◌, Bool, true, false, ◌&&◌, eqb, List, [], ◌∷◌, ◌++◌, length, sym, refl, ap, ◌∙◌, subst, append_assoc, append-nil, arith, length-append, eq-eqb, ne_eqb, eqb-true}
+use Rattle.std.proofs.Common.{◌≡◌, ℕ, suc, ◌+◌, ◌*◌, ◌%◌, ◌^◌, ◌<◌, ◌≤◌, Bool, true, false, ◌&&◌, eqb, List, [], ◌∷◌, ◌++◌, length, sym, refl, ap, ◌∙◌, subst, append_assoc, append-nil, arith, length-append, eq-eqb, ne_eqb, eqb-true, Ok}
 use borrow.Author.Tests.{eqb-false}
 use Rattle.words.specs.Notation.{pick}
 use Rattle.words.proofs.Pick.{cases}
 use Rattle.sequence.specs.Limits.{line_feed, added}
 use Rattle.sequence.specs.Digits.{digit_of}
-use Rattle.sequence.specs.Reading.{kept, handed, begun, first_digit, held_back, completed, second_digit, joined, with_digit, given_of, back, end_of}
+use Rattle.sequence.specs.Reading.{kept, handed, begun, first_digit, held_back, completed, second_digit, joined, with_digit, given_of, fault, back, end_of}
 use Rattle.sequence.specs.Text.{Outcome, outcome_of, Values, Wrong, values_of, sum_of, remainder, onto, lines_of, lines}
 use Rattle.sequence.specs.declared.reader.Refusal.TheVariants.{WrongRemainder}
-use Rattle.sequence.specs.declared.reader.Verdict.TheVariants.{Sound, Refused}
 use Rattle.sequence.specs.declared.reader.Reader.{Reader}
 use Rattle.sequence.specs.declared.step.Stepped.{Stepped}
-use Rattle.sequence.proofs.Contrary.{contrary}
 use Rattle.sequence.proofs.Lines.{prefix, prefix_line, prefix_snoc, lines_some, onto_no_end, length_onto, lines_on, Pairs, none, pairs_even, pairs_snoc, values_snoc, remainder_snoc}
 
 -- the reader is sound, p characters are behind it, n of them in its line, and it has handed out the values H
 pub record Position (r : Reader) (H : List ℕ) (p n : ℕ) : Type 0 where
-  pub sound : r.verdict ≡ Sound
+  pub sound : r.verdict ≡ Ok tt
   pub line : r.line + n ≡ p
   pub column : r.column ≡ n
   pub sum : r.sum ≡ remainder H
@@ -66,6 +64,26 @@ module _ (r : Reader) (H : List ℕ) (p n : ℕ) (K : List ℕ → Outcome) wher
   position (odd vs front h o) = o.at
   position (alone q vs a b l) = l.at
 
+-- one character on in the line: nothing is handed out, or the value v
+module _ {r u : Reader} {H : List ℕ} {p n : ℕ} (at : Position r H p n) (sound : u.verdict ≡ r.verdict) (line : u.line ≡ r.line) (column : u.column ≡ r.column + 1) where
+  on_kept : u.sum ≡ r.sum → Position u (H ++ []) (suc p) (suc n)
+  on_kept sum =
+      record {
+        sound = sound ∙ at.sound;
+        line = omega (arith, line, at.line);
+        column = omega (arith, column, at.column);
+        sum = sum ∙ at.sum ∙ ap remainder (sym (append-nil H));
+      }
+
+  on_handed : (v : ℕ) → u.sum ≡ added r.sum v → Position u (H ++ v ∷ []) (suc p) (suc n)
+  on_handed v sum =
+      record {
+        sound = sound ∙ at.sound;
+        line = omega (arith, line, at.line);
+        column = omega (arith, column, at.column);
+        sum = sum ∙ ap (λ (m : ℕ). added m v) at.sum ∙ sym (remainder_snoc H v);
+      }
+
 -- the text ends
 module _ (r : Reader) (H : List ℕ) (p n : ℕ) (K : List ℕ → Outcome) (bound : p < 2 ^ 64) where
   end_even : (vs front : List ℕ) → Even r H p n K vs front → outcome_of H (end_of r) ≡ K []
@@ -86,7 +104,7 @@ module _ (r : Reader) (H : List ℕ) (p n : ℕ) (K : List ℕ → Outcome) (bou
       rw (o.at.sound, inside, o.rest [], prefix_line (front ++ h ∷ []) [])
 
   judged : (q : ℕ) (vs : List ℕ) → H ≡ vs → back 3 r.line ≡ q → (t : Bool)
-      → outcome_of H (pick t Sound (Refused WrongRemainder (back 3 r.line))) ≡ pick t (Values vs) (Wrong WrongRemainder q)
+      → outcome_of H (pick t (Ok tt) (fault WrongRemainder (back 3 r.line))) ≡ pick t (Values vs) (Wrong WrongRemainder q)
   judged q vs e b true = ap Values e
   judged q vs e b false = ap (Wrong WrongRemainder) b
 
@@ -128,18 +146,10 @@ module _ (r : Reader) (H : List ℕ) (p n : ℕ) (K : List ℕ → Outcome) (c :
     first_held : eqb n 2 ≡ true → Moved (handed (begun r (digit_of c)) r.held)
     unfolding Moved
     first_held t =
-        let line = e.at.line in
-        let column = e.at.column in
         let count = e.count in
         odd vs front c
         (record {
-          at =
-              record {
-                sound = e.at.sound;
-                line = omega arith;
-                column = omega arith;
-                sum = ap (λ (m : ℕ). added m r.held) e.at.sum ∙ sym (remainder_snoc H r.held);
-              };
+          at = on_handed e.at refl refl refl r.held refl;
           count = omega arith;
           short = omega (arith, pairs_even e.pairs);
           pairs = e.pairs;
@@ -153,12 +163,10 @@ module _ (r : Reader) (H : List ℕ) (p n : ℕ) (K : List ℕ → Outcome) (c :
     first_free : eqb n 2 ≡ false → Moved (kept (begun r (digit_of c)))
     unfolding Moved
     first_free t =
-        let line = e.at.line in
-        let column = e.at.column in
         let count = e.count in
         odd vs front c
         (record {
-          at = record { sound = e.at.sound; line = omega arith; column = omega arith; sum = e.at.sum ∙ ap remainder (sym (append-nil H)) };
+          at = on_kept e.at refl refl refl refl;
           count = omega arith;
           short = omega (arith, pairs_even e.pairs);
           pairs = e.pairs;
@@ -202,7 +210,6 @@ module _ (r : Reader) (H : List ℕ) (p n : ℕ) (K : List ℕ → Outcome) (c :
         → Moved (kept (held_back r (joined r.high (digit_of c))))
     unfolding Moved values_of
     second_held t =
-        let line = o.at.line in
         let column = o.at.column in
         let one = eqb-true r.column 1 t in
         let count = o.count in
@@ -210,13 +217,13 @@ module _ (r : Reader) (H : List ℕ) (p n : ℕ) (K : List ℕ → Outcome) (c :
         let two : eqb (suc n) 2 ≡ true = eq-eqb (suc n) 2 (omega arith) in
         even vs (front ++ h ∷ c ∷ [])
         (record {
-          at = record { sound = o.at.sound; line = omega arith; column = omega arith; sum = o.at.sum ∙ ap remainder (sym (append-nil H)) };
+          at = on_kept o.at refl refl (omega arith) refl;
           count = longer;
           short = omega arith;
           pairs = pairs_snoc h c o.pairs;
           holds = sym two;
           back = λ u. (append-nil H ∙ o.out ∙ rw (empty, append-nil), rw (value, values_snoc h c o.pairs, empty));
-          out = λ u. absurd (contrary two u);
+          out = λ u. cc (two, u);
           rest = rest_pair;
         })
 
@@ -224,24 +231,17 @@ module _ (r : Reader) (H : List ℕ) (p n : ℕ) (K : List ℕ → Outcome) (c :
         → Moved (handed (completed r) (joined r.high (digit_of c)))
     unfolding Moved
     second_handed t =
-        let line = o.at.line in
         let column = o.at.column in
         let other = eqb-false r.column 1 t in
         let more-than : eqb (suc n) 2 ≡ false = ne_eqb (suc n) 2 (λ e. other (omega arith)) in
         even vs (front ++ h ∷ c ∷ [])
         (record {
-          at =
-              record {
-                sound = o.at.sound;
-                line = omega arith;
-                column = omega arith;
-                sum = ap (λ (m : ℕ). added m (joined r.high (digit_of c))) o.at.sum ∙ sym (remainder_snoc H (joined r.high (digit_of c)));
-              };
+          at = on_handed o.at refl refl refl (joined r.high (digit_of c)) refl;
           count = longer;
           short = omega arith;
           pairs = pairs_snoc h c o.pairs;
           holds = o.holds ∙ sym more-than;
-          back = λ u. absurd (contrary u more-than);
+          back = λ u. cc (u, more-than);
           out = λ u. rw (value, values_snoc h c o.pairs, o.out) (append_assoc vs (values_of front) ((digit_of h * 16 + digit_of c) ∷ []));
           rest = rest_pair;
         })
@@ -261,7 +261,6 @@ module _ (r : Reader) (H : List ℕ) (p n : ℕ) (K : List ℕ → Outcome) (c :
     alone_digit : Moved (with_digit r (digit_of c))
     unfolding Moved with_digit first_digit lines_of values_of prefix
     alone_digit =
-        let line = l.at.line in
         let column = l.at.column in
         let count = l.count in
         let behind = l.behind in
@@ -272,13 +271,7 @@ module _ (r : Reader) (H : List ℕ) (p n : ℕ) (K : List ℕ → Outcome) (c :
         subst Moved (sym is)
         (odd (vs ++ values_of (a ∷ b ∷ [])) [] c
         (record {
-          at =
-              record {
-                sound = l.at.sound;
-                line = omega arith;
-                column = omega arith;
-                sum = ap (λ (m : ℕ). added m r.held) l.at.sum ∙ sym (remainder_snoc H r.held);
-              };
+          at = on_handed l.at refl refl refl r.held refl;
           count = omega arith;
           short = omega arith;
           pairs = none;

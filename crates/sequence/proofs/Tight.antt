@@ -1,13 +1,13 @@
 -- What holds of every answer of read: the contract leaves no choice (of write too), what is reported fits what was lent, and a call with room gets on.
-use Rattle.std.proofs.Common.{◌≡◌, ℕ, ◌-◌, ◌<◌, ◌≤◌, false, List, [], ◌∷◌, length, sym, ◌∙◌, arith, length-append}
+use Rattle.std.proofs.Common.{◌≡◌, ℕ, ◌-◌, ◌<◌, ◌≤◌, false, List, [], ◌∷◌, length, sym, ◌∙◌, arith, length-append, None, Some}
+use Rattle.std.specs.Option.{option_to_list}
 use native.Mathlib.Decide.{dec_le}
-use Rattle.words.proofs.Pick.{cases, by_pick}
+use Rattle.words.proofs.Pick.{cases}
 use Rattle.sequence.specs.Piece.{Piece, stop, further, Fills}
 use Rattle.sequence.specs.Reading.{is_refused, step_of, next, given_of, given, reading, Reads}
 use Rattle.sequence.specs.declared.reader.Reader.{Reader}
 use Rattle.sequence.specs.declared.reader.ReadAnswer.{ReadAnswer}
 use Rattle.sequence.specs.declared.step.Stepped.{Stepped}
-use Rattle.sequence.proofs.Contrary.{contrary}
 use Rattle.sequence.proofs.Taking.{reading_refused, reading_full, reading_more}
 
 module _ {S : Type 0} {p : Piece S} {before after after' : List ℕ} {s s' : S} {t t' w w' : ℕ} (a : Fills p before after s t w) (b : Fills p before after' s' t' w') where
@@ -30,7 +30,7 @@ read_equal r text before after after' a b p q =
 
 -- one character gives at most one value
 given_few : (s : Stepped) → length (given_of s) ≤ 1
-given_few s = by_pick (λ l. length l ≤ 1) s.gives (s.value ∷ []) [] (λ t. omega arith) (λ t. omega arith)
+given_few s = elim s.value as (λ v. length (option_to_list v) ≤ 1) [ None ↦ omega arith | Some v ↦ omega arith ]
 
 pub record Bounded (room : ℕ) (text : List ℕ) (p : Piece Reader) : Type 0 where
   pub taken : p.taken ≤ length text
@@ -68,5 +68,5 @@ pub read_gets_on : (room : ℕ) (r : Reader) (c : ℕ) (cs : List ℕ) → 0 < r
 unfolding stop further
 read_gets_on room r c cs some sound =
     cases (is_refused (next r c).verdict)
-    (λ e. absurd (contrary e (rw (reading_refused room r c cs e) at sound)))
+    (λ e. cc (e, rw (reading_refused room r c cs e) at sound))
     (λ e. let few = given_few (step_of r c) in rw (reading_more room r c cs e (omega arith)) (omega arith))

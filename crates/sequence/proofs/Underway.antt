@@ -1,11 +1,8 @@
 -- A loop that makes a piece: so much is taken, so much stands in the buffer, and what is left to do makes the rest of the piece.
-use Rattle.std.proofs.Common.{◌≡◌, ℕ, ◌+◌, ◌-◌, ◌<◌, ◌≤◌, Bool, true, false, ◌&&◌, leb, List, [], ◌∷◌, length, take, drop, set, sym, refl, ap, ◌∙◌, append-nil, add-zero, add_assoc, zero-add, add-one, arith, length-set, length-take-le, drop-drop, take-suc-set, drop-set-lt, leb-false}
-use native.Mathlib.Nat.{sub-zero}
+use Rattle.std.proofs.Common.{◌≡◌, ℕ, ◌+◌, ◌-◌, ◌<◌, ◌≤◌, List, [], ◌∷◌, length, take, drop, set, sym, ap, ◌∙◌, append-nil, add-zero, add_assoc, add-one, arith, length-set, length-take-le, drop-drop, take-suc-set, drop-set-lt}
 use lib.Seq.{append_snoc}
-use Rattle.words.specs.Notation.{pick}
-use Rattle.lists.proofs.Front.{Front, front_none, front_done}
+use Rattle.lists.proofs.Front.{Front, front_done}
 use Rattle.sequence.specs.Piece.{Piece, stop, further, Fills}
-use Rattle.sequence.specs.Inner.{Puts}
 
 module _ {S : Type 0} (p : Piece S) (before : List ℕ) where
   pub record Underway (i w : ℕ) (rest : Piece S) (out : List ℕ) : Type 0 where
@@ -13,9 +10,6 @@ module _ {S : Type 0} (p : Piece S) (before : List ℕ) where
     pub state : rest.state ≡ p.state
     pub within : w ≤ length before
     pub front : Front before p.made w rest.made out
-
-  pub underway_none : Underway 0 0 p before
-  underway_none = record { taken = zero-add p.taken; state = refl; within = omega arith; front = front_none before p.made }
 
   module _ {i w : ℕ} {rest : Piece S} {out : List ℕ} (u : Underway i w rest out) where
     pub underway_size : length out ≡ length before
@@ -67,20 +61,8 @@ module _ {S : Type 0} (p : Piece S) (before : List ℕ) where
                 };
           }
 
-      -- the one or the other
-      pub underway_put : (gives : Bool) (v w' : ℕ) (out' : List ℕ) → rest ≡ further n (pick gives (v ∷ []) []) next → gives && leb (length out) w ≡ false → Puts w gives v out out' w'
-          → Underway (i + n) w' next out'
-      underway_put true v w' out' e room q =
-          let free = leb-false (length out) w room in
-          let size = underway_size in
-          rw (q.behind, q.out) (underway_one v e (omega arith))
-      underway_put false v w' out' e room q = rw (q.behind, q.out) (underway_nothing e)
-
 -- the loop of a call, behind i of what it was lent and n octets of its buffer: the same call on what is left makes the rest
 module _ {S : Type 0} (call : ℕ → S → List ℕ → Piece S) (s₀ : S) (xs before : List ℕ) where
   pub record Midway (s : S) (i n : ℕ) (out : List ℕ) : Type 0 where
     pub within : i ≤ length xs
     pub under : Underway (call (length before) s₀ xs) before i n (call (length before - n) s (drop i xs)) out
-
-  pub midway_none : Midway s₀ 0 0 before
-  midway_none = record { within = omega arith; under = rw sub-zero (underway_none (call (length before) s₀ xs) before) }

@@ -75,7 +75,7 @@ module _ (r : Reader) (H : List ℕ) (p n : ℕ) (K : List ℕ → Outcome) (c :
         short = omega arith;
         pairs = none;
         holds = e.holds ∙ other;
-        back = λ u. absurd (let z : ◌≡◌ {A = ℕ} 0 2 = eqb-true 0 2 u in omega arith);
+        back = λ u. cc u;
         out = λ u. e.out other ∙ sym (append-nil (vs ++ values_of front));
         rest =
             λ cs.
@@ -180,7 +180,7 @@ begins =
       short = omega arith;
       pairs = none;
       holds = refl;
-      back = λ u. absurd (let z : ◌≡◌ {A = ℕ} 0 2 = eqb-true 0 2 u in omega arith);
+      back = λ u. cc u;
       out = λ u. refl;
       rest = λ cs. refl;
     })

@@ -3,4 +3,3 @@ pub mod Digits
 pub mod Piece
 pub mod Reading
 pub mod Text
-pub mod Inner

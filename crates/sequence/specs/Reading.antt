@@ -1,62 +1,59 @@
 -- A reader, which is given a text character by character (docs/RULES.md, "The text of a sequence"): what a character makes of it and the value that it
 -- hands out, what a run of characters gives, a call on a piece of the text, and the text's end. Any reader may be handed in.
-use Rattle.std.specs.Prelude.{ℕ, ◌+◌, ◌-◌, ◌*◌, ◌/◌, ◌%◌, ◌^◌, Bool, true, false, not, ◌&&◌, ◌||◌, leb, List, [], ◌∷◌, ◌++◌, length, nat_eq, nat_le, nat_lt}
+use Rattle.std.specs.Prelude.{ℕ, ◌+◌, ◌-◌, ◌*◌, ◌/◌, ◌%◌, ◌^◌, Bool, true, false, not, ◌&&◌, ◌||◌, leb, List, [], ◌∷◌, ◌++◌, length, nat_eq, nat_le, nat_lt, None, Some, Ok, Err, is_err}
+use Rattle.std.specs.Option.{option_to_list}
 use Rattle.words.specs.Notation.{◌when◌∣◌}
 use Rattle.sequence.specs.Piece.{Piece, stop, further, Fills}
 use Rattle.sequence.specs.Limits.{line_feed, longest, modulus, added, is_whole}
 use Rattle.sequence.specs.Digits.{digit_of, is_digit}
+use Rattle.sequence.specs.Text.{Verdict}
 use Rattle.sequence.specs.declared.reader.Refusal.{Refusal}
 use Rattle.sequence.specs.declared.reader.Refusal.TheVariants.{BadCharacter, LineTooLong, WrongRemainder, MissingRemainder}
-use Rattle.sequence.specs.declared.reader.Verdict.{Verdict}
-use Rattle.sequence.specs.declared.reader.Verdict.TheVariants.{Sound, Refused}
 use Rattle.sequence.specs.declared.reader.Reader.{Reader}
 use Rattle.sequence.specs.declared.reader.ReadAnswer.{ReadAnswer}
 use Rattle.sequence.specs.declared.step.Stepped.{Stepped}
 
 abbrev pub is_refused : Verdict → Bool
-is_refused Sound = false
-is_refused (Refused why place) = true
+is_refused verdict = is_err verdict
+
+abbrev pub fault : Refusal → ℕ → Verdict
+fault why at = Err (record { why = why; place = at })
 
 -- before the first character
 abbrev pub beginning : Reader
-beginning = record { verdict = Sound; line = 0; column = 0; high = 0; holds = false; held = 0; sum = 0 }
+beginning = record { verdict = Ok tt; line = 0; column = 0; high = 0; holds = false; held = 0; sum = 0 }
 
 -- where the next character stands
 abbrev pub place : Reader → ℕ
 place r = (r.line + r.column) % 2 ^ 64
 
 abbrev pub refused : Reader → Refusal → Reader
-refused r why = record { verdict = Refused why (place r); line = r.line; column = r.column; high = r.high; holds = r.holds; held = r.held; sum = r.sum }
+refused r why = record r { verdict = fault why (place r) }
 
 abbrev pub line_ended : Reader → Reader
-line_ended r = record { verdict = r.verdict; line = (place r + 1) % 2 ^ 64; column = 0; high = r.high; holds = r.holds; held = r.held; sum = r.sum }
+line_ended r = record r { line = (place r + 1) % 2 ^ 64; column = 0 }
 
 -- nothing is handed out
 abbrev pub kept : Reader → Stepped
-kept r = record { reader = r; gives = false; value = 0 }
+kept r = record { reader = r; value = None }
 
 -- a value is handed out, and summed
 abbrev pub handed : Reader → ℕ → Stepped
-handed r v =
-    record {
-      reader = record { verdict = r.verdict; line = r.line; column = r.column; high = r.high; holds = r.holds; held = r.held; sum = added r.sum v };
-      gives = true;
-      value = v;
-    }
+handed r v = record { reader = record r { sum = added r.sum v }; value = Some v }
 
 -- the first digit of a value: what is held back is no remainder, since something follows it
 abbrev pub begun : Reader → ℕ → Reader
-begun r d = record { verdict = r.verdict; line = r.line; column = r.column + 1; high = d; holds = false; held = r.held; sum = r.sum }
+begun r d = record r { column = r.column + 1; high = d; holds = false }
 
 unfoldable pub first_digit : Reader → ℕ → Stepped
 first_digit r d = handed (begun r d) r.held when r.holds ∣ kept (begun r d)
 
 -- the second digit, with the value that it completes: the first value of a line is held back, every other one is handed out
 abbrev pub held_back : Reader → ℕ → Reader
-held_back r v = record { verdict = r.verdict; line = r.line; column = 2; high = r.high; holds = true; held = v; sum = r.sum }
+held_back r v = record r { column = 2; holds = true; held = v }
 
 abbrev pub completed : Reader → Reader
-completed r = record { verdict = r.verdict; line = r.line; column = r.column + 1; high = r.high; holds = r.holds; held = r.held; sum = r.sum }
+completed r = record r { column = r.column + 1 }
 
 unfoldable pub second_digit : Reader → ℕ → Stepped
 second_digit r v = kept (held_back r v) when nat_eq r.column 1 ∣ handed (completed r) v
@@ -81,7 +78,7 @@ next r c = (step_of r c).reader
 
 -- none or one
 abbrev pub given_of : Stepped → List ℕ
-given_of s = s.value ∷ [] when s.gives ∣ []
+given_of s = option_to_list s.value
 
 abbrev pub given : Reader → ℕ → List ℕ
 given r c = given_of (step_of r c)
@@ -112,14 +109,14 @@ back n at = (at + 2 ^ 64 - n) % 2 ^ 64
 
 -- what is held alone in the last line is the remainder. That line, two digits and a line feed, is behind
 abbrev pub remainder_verdict : Reader → Verdict
-remainder_verdict r = Sound when nat_eq r.held (r.sum % modulus) ∣ Refused WrongRemainder (back 3 r.line)
+remainder_verdict r = Ok tt when nat_eq r.held (r.sum % modulus) ∣ fault WrongRemainder (back 3 r.line)
 
 -- the text's end
 unfoldable pub end_of : Reader → Verdict
 end_of r =
     r.verdict when is_refused r.verdict
     ∣ remainder_verdict r when nat_eq r.column 0 && r.holds
-    ∣ Refused MissingRemainder r.line
+    ∣ fault MissingRemainder r.line
 
 -- where the value stands that was handed out last: in its line, or as the last of the line before, where one that is held back may stand between
 unfoldable pub last_place : Reader → ℕ

@@ -1,12 +1,15 @@
 -- What reading a whole text gives (docs/RULES.md, "The text of a sequence"): its values, or the first thing that is wrong with it and where.
-use Rattle.std.specs.Prelude.{ℕ, suc, ◌+◌, ◌*◌, ◌%◌, ◌<◌, not, ◌&&◌, List, [], ◌∷◌, ◌++◌, length, ◌==◌, nat_eq, nat_le, slice_index}
+use Rattle.std.specs.Prelude.{ℕ, suc, ◌+◌, ◌*◌, ◌%◌, ◌<◌, not, ◌&&◌, List, [], ◌∷◌, ◌++◌, length, ◌==◌, nat_eq, nat_le, slice_index, Result, Ok, Err}
 use Rattle.words.specs.Notation.{◌when◌∣◌}
 use Rattle.sequence.specs.Limits.{line_feed, longest, modulus, is_whole}
 use Rattle.sequence.specs.Digits.{digit_of, is_digit}
 use Rattle.sequence.specs.declared.reader.Refusal.{Refusal}
 use Rattle.sequence.specs.declared.reader.Refusal.TheVariants.{BadCharacter, LineTooLong, WrongRemainder, MissingRemainder}
-use Rattle.sequence.specs.declared.reader.Verdict.{Verdict}
-use Rattle.sequence.specs.declared.reader.Verdict.TheVariants.{Sound, Refused}
+use Rattle.sequence.specs.declared.reader.Fault.{Fault}
+
+-- nothing is wrong with a text, or what is and where
+abbrev pub Verdict : Type 0
+Verdict = Result (Unit {0}) Fault
 
 pub data Outcome : Type 0 where
   Values : List ℕ → Outcome
@@ -59,8 +62,8 @@ read_of text = characters 0 0 text (lines 0 [] (lines_of text))
 
 -- what was handed out, and the verdict at the text's end, as an outcome
 abbrev pub outcome_of : List ℕ → Verdict → Outcome
-outcome_of vs Sound = Values vs
-outcome_of vs (Refused why place) = Wrong why place
+outcome_of vs (Ok _) = Values vs
+outcome_of vs (Err fault) = Wrong fault.why fault.place
 
 -- values that two digits hold
 pub record Octets (vs : List ℕ) : Type 0 where

@@ -1,30 +1,11 @@
 // Hexadecimal digits as characters, in either case of letter.
-ghost use Rattle.std.specs.Prelude.{◌≡◌};
-ghost use Rattle.sequence.specs.Digits.{digit_of};
+ghost use Rattle.std.specs.Prelude.{IsTrue, SomeIff};
+ghost use Rattle.sequence.specs.Digits.{digit_of, is_digit};
 
-// What digit_of answers where there is none
-pub const NO_DIGIT: u8 = 16;
-
-pub fn digit_of(character: u8) -> u8
-    ensures { result ≡ digit_of character }
+#[tactic(auto, using(crate::proofs::Characters::digit_as_core))]
+pub fn digit_of(character: u8) -> Option<u8>
+    ensures { SomeIff result (IsTrue (is_digit character)) (digit_of character) }
 {
-    if character < b'0' {
-        return NO_DIGIT;
-    }
-    if character <= b'9' {
-        return character - b'0';
-    }
-    if character < b'A' {
-        return NO_DIGIT;
-    }
-    if character <= b'F' {
-        return character - b'A' + 10;
-    }
-    if character < b'a' {
-        return NO_DIGIT;
-    }
-    if character <= b'f' {
-        return character - b'a' + 10;
-    }
-    NO_DIGIT
+    let digit = char::from(character).to_digit(16)?;
+    Some(digit as u8)
 }

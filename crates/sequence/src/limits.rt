@@ -1,5 +1,5 @@
 // The numbers of a text's layout (specs/Limits.antt), each named once.
-pub const LINE_FEED: u8 = 10;
+pub const LINE_FEED: u8 = b'\n';
 
 // The characters of a line of 32 values
 pub const LONGEST: u8 = 64;

@@ -8,12 +8,12 @@ use crate::limits::MODULUS;
 pub fn added(sum: u8, value: u8) -> u8
     ensures { result ≡ added sum value }
 {
-    (((sum as u16) + (value as u16)) % MODULUS) as u8
+    ((u16::from(sum) + u16::from(value)) % MODULUS) as u8
 }
 
 // Of a sum that anyone may have handed in
 pub fn remainder_of(sum: u8) -> u8
     ensures { result ≡ sum % modulus }
 {
-    ((sum as u16) % MODULUS) as u8
+    (u16::from(sum) % MODULUS) as u8
 }

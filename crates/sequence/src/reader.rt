@@ -1,12 +1,11 @@
 // Reading a text in pieces: its values go into a second buffer, and what is wrong with it is told by name and place.
-ghost use Rattle.std.specs.Prelude.{◌≡◌, ◌≤◌, false, ◌&&◌, length, nat_le};
-ghost use Rattle.sequence.specs.Reading.{is_refused, beginning, Reads, back, remainder_verdict, end_of, last_place};
-ghost use Rattle.sequence.specs.Inner.{Puts};
+ghost use Rattle.std.specs.Prelude.{◌≡◌, ◌≤◌};
+ghost use Rattle.sequence.specs.Reading.{beginning, Reads, back, remainder_verdict, end_of, last_place};
 
 use crate::modular::remainder_of;
 use crate::step::step;
 
-#[derive(Clone, Copy)]
+#[derive(Clone, Copy, PartialEq, Eq, Debug)]
 pub enum Refusal {
     BadCharacter,
     LineTooLong,
@@ -14,18 +13,19 @@ pub enum Refusal {
     MissingRemainder,
 }
 
-// A refusal has a place, counted in characters from 0
-#[derive(Clone, Copy)]
-pub enum Verdict {
-    Sound,
-    Refused(Refusal, u64),
+// What is wrong with a text, and its place, counted in characters from 0
+#[derive(Clone, Copy, PartialEq, Eq, Debug)]
+pub struct Fault {
+    pub why: Refusal,
+    pub place: u64,
 }
 
 // Between two characters: what was found wrong, where the line starts, how many characters of it were read, its last digit where that is
-// half a value, the value that is held back, and the sum of those that were handed out, modulo 255
+// half a value, the value that is held back, and the sum of those that were handed out, modulo 255.
+// `high`, `holds` and `held` are no Option: a program hands in and prints a reader, and any numbers may stand in them (docs/ANSWERS.md).
 #[derive(Clone, Copy)]
 pub struct Reader {
-    pub verdict: Verdict,
+    pub verdict: Result<(), Fault>,
     pub line: u64,
     pub column: u8,
     pub high: u8,
@@ -34,7 +34,8 @@ pub struct Reader {
     pub sum: u8,
 }
 
-// The reader behind the characters that were taken, and how many values were written
+// The reader behind the characters that were taken, and how many values were written. Not one generic with the writer's: Reads and Writes
+// speak of a reader and a writer.
 #[derive(Clone, Copy)]
 pub struct ReadAnswer {
     pub reader: Reader,
@@ -47,7 +48,7 @@ pub fn begin() -> Reader
     ensures { result ≡ beginning }
 {
     Reader {
-        verdict: Verdict::Sound,
+        verdict: Ok(()),
         line: 0,
         column: 0,
         high: 0,
@@ -58,76 +59,68 @@ pub fn begin() -> Reader
 }
 
 // Takes characters until they end, until one is refused, or until one hands out a value for which there is no room. The one that
-// it stops at is not taken.
+// it stops at is not taken. By index: of a write through get_mut a proof knows the length only.
+#[tactic(auto, using(crate::proofs::Going::going_refused, crate::proofs::Going::going_full, crate::proofs::Going::going_done))]
 pub fn read(from: Reader, text: &[u8], values: &mut [u8]) -> ReadAnswer
     ensures { Reads from text.now values.old values.new result }
 {
-    let mut r = from;
-    let mut taken = 0;
+    let mut reader = from;
     let mut written = 0;
-    while taken < text.len() {
-        let s = step(r, text[taken]);
-        let next = s.reader;
-        let verdict = next.verdict;
-        if is_refused(verdict) {
+    for (taken, character) in text.iter().enumerate() {
+        let next = step(reader, *character);
+        if next.reader.verdict.is_err() {
             return ReadAnswer {
-                reader: next,
+                reader: next.reader,
                 taken,
                 written,
             };
         }
-        if s.gives & (values.len() <= written) {
-            return ReadAnswer {
-                reader: r,
-                taken,
-                written,
-            };
+        if let Some(value) = next.value {
+            if values.len() <= written {
+                return ReadAnswer {
+                    reader,
+                    taken,
+                    written,
+                };
+            }
+            values[written] = value;
+            written += 1;
         }
-        written = put(values, written, s.gives, s.value);
-        r = next;
-        taken += 1;
+        reader = next.reader;
     }
     ReadAnswer {
-        reader: r,
-        taken,
+        reader,
+        taken: text.len(),
         written,
     }
 }
 
-// Writes the value where one is given, and answers the place behind it
-fn put(values: &mut [u8], at: usize, gives: bool, value: u8) -> usize
-    requires { gives && nat_le (length values.old) at ≡ false }
-    ensures { Puts at gives value values.old values.new result }
-{
-    if gives {
-        values[at] = value;
-        return at + 1;
-    }
-    at
-}
-
 // The text ends here
-pub fn end(r: Reader) -> Verdict
+#[tactic(auto, unfolding(crate::specs::Reading::end_of))]
+pub fn end(r: Reader) -> Result<(), Fault>
     ensures { result ≡ end_of r }
 {
-    let verdict = r.verdict;
-    if is_refused(verdict) {
-        return verdict;
-    }
-    if (r.column == 0) & r.holds {
+    r.verdict?;
+    if r.column == 0 && r.holds {
         return remainder_verdict(r);
     }
-    Verdict::Refused(Refusal::MissingRemainder, r.line)
+    Err(Fault {
+        why: Refusal::MissingRemainder,
+        place: r.line,
+    })
 }
 
 // Its line, two digits and a line feed, is behind.
-fn remainder_verdict(r: Reader) -> Verdict
+fn remainder_verdict(r: Reader) -> Result<(), Fault>
     ensures { result ≡ remainder_verdict r }
 {
     if r.held == remainder_of(r.sum) {
-        return Verdict::Sound;
+        return Ok(());
     }
-    Verdict::Refused(Refusal::WrongRemainder, back(3, r.line))
+    Err(Fault {
+        why: Refusal::WrongRemainder,
+        place: back(3, r.line),
+    })
 }
 
 // A place so many characters before another
@@ -135,29 +128,21 @@ fn back(n: u64, at: u64) -> u64
     requires { n ≤ 6 }
     ensures { result ≡ back n at }
 {
-    std::num::wrapping_sub_u64(at, n)
+    at.wrapping_sub(n)
 }
 
 // Where the value stands that was handed out last. In its line, or as the last of the line before; a value that is held back
 // alone in its line stands between.
+#[tactic(auto, unfolding(crate::specs::Reading::last_place))]
 pub fn last_place(r: Reader) -> u64
     ensures { result ≡ last_place r }
 {
     if 3 <= r.column {
-        let values = (r.column / 2) as u64;
-        return std::num::wrapping_add_u64(r.line, 2 * values - 2);
+        let values = u64::from(r.column / 2);
+        return r.line.wrapping_add(2 * values - 2);
     }
-    if (r.column == 0) & r.holds {
+    if r.column == 0 && r.holds {
         return back(6, r.line);
     }
     back(3, r.line)
-}
-
-pub fn is_refused(verdict: Verdict) -> bool
-    ensures { result ≡ is_refused verdict }
-{
-    match verdict {
-        Verdict::Sound => false,
-        Verdict::Refused(_, _) => true,
-    }
 }

@@ -1,132 +1,90 @@
 // Values through the codec, each in its place: PCM octets become codewords, codewords become PCM octets.
-ghost use Rattle.std.specs.Prelude.{◌≡◌, ◌^◌};
+ghost use Rattle.std.specs.Prelude.{◌≡◌, ◌^◌, ◌≤◌, length};
 ghost use Rattle.quantizer.specs.Codeword.{Width};
-ghost use Rattle.quantizer.specs.Pair.{Pair};
 ghost use Rattle.state.specs.InRange.{MemoryInRange};
-ghost use Rattle.sequence_tool.specs.Ready.{Ready};
 
 use crate::streaming::Way;
-use command_line::coding::Coding;
-use quantizer::codeword::half;
-use quantizer::pair::is_pair;
+use command_line::coding::Pair;
+use command_line::law::Law;
 use sample::pcm::{decode_byte, encode_byte};
 use state::memory::{Memory, reset_memory};
 
 // The law, the pair, and the memories of both ends
 #[derive(Clone, Copy)]
 pub struct Codec {
-    pub law: u8,
-    pub width: u8,
-    pub core: u8,
-    pub encoder: Memory,
-    pub decoder: Memory,
+    law: Law,
+    pair: Pair,
+    encoder: Memory,
+    decoder: Memory,
+    ghost encoder_in_range: { MemoryInRange encoder },
+    ghost decoder_in_range: { MemoryInRange decoder },
 }
 
-// How many values were taken, and the codec behind them
-#[derive(Clone, Copy)]
-pub struct Made {
-    pub codec: Codec,
-    pub count: usize,
-}
-
-// From reset. Where nothing is coded, any pair will do.
-pub fn begun(coding: Coding) -> Codec
-    ensures { Ready result }
-{
-    if is_pair(coding.width, coding.core) {
-        return reset_at(coding.law, coding.width, coding.core);
-    }
-    reset_at(coding.law, 2, 2)
-}
-
-fn reset_at(law: u8, width: u8, core: u8) -> Codec
-    requires { Pair width core }
-    ensures { Ready result }
-{
-    let m = reset_memory();
-    Codec {
-        law,
-        width,
-        core,
-        encoder: m,
-        decoder: m,
-    }
-}
-
-// A decoder is homed with what an encoder makes of the values.
-pub fn make(way: Way, codec: Codec, values: &mut [u8]) -> Made
-    requires { Ready codec }
-    ensures { Ready result.codec }
-{
-    match way {
-        Way::Read | Way::Write => Made {
-            codec,
-            count: values.len(),
-        },
-        Way::Encode | Way::HomeEncoder => Made {
-            codec: encode_all(codec, values),
-            count: values.len(),
-        },
-        Way::Decode => decode_all(codec, values),
-        Way::HomeDecoder => decode_all(encode_all(codec, values), values),
-    }
-}
-
-fn encode_all(codec: Codec, values: &mut [u8]) -> Codec
-    requires { Ready codec }
-    ensures { Ready result }
-{
-    let mut m = codec.encoder;
-    let mut i = 0;
-    while i < values.len() {
-        let e = encode_byte(m, codec.core, codec.law, codec.width, values[i]);
-        let next = e.memory;
-        values[i] = e.codeword;
-        m = next;
-        i += 1;
-    }
-    Codec {
-        encoder: m,
-        ..codec
-    }
-}
-
-// Stops before a value that is no codeword of the width.
-fn decode_all(codec: Codec, values: &mut [u8]) -> Made
-    requires { Ready codec }
-    ensures { Ready result.codec }
-{
-    let codewords = count_codewords(codec.width);
-    let mut m = codec.decoder;
-    let mut i = 0;
-    while i < values.len() {
-        let codeword = values[i];
-        if codewords <= codeword {
-            return decoded(codec, m, i);
+impl Codec {
+    // From reset
+    #[tactic(auto, using(state::proofs::Ranges::reset_memory_in_range))]
+    pub fn new(law: Law, pair: Pair) -> Codec {
+        let reset = reset_memory();
+        Codec {
+            law,
+            pair,
+            encoder: reset,
+            decoder: reset,
         }
-        let p = decode_byte(m, codec.core, codec.law, codec.width, codeword);
-        let next = p.memory;
-        values[i] = p.byte;
-        m = next;
-        i += 1;
     }
-    decoded(codec, m, i)
+
+    // Answers of how many values something was made. A decoder is homed with what an encoder makes of the values.
+    pub fn make(&mut self, way: Way, values: &mut [u8]) -> usize
+        ensures { result ≤ length values.new }
+    {
+        match way {
+            Way::Read | Way::Write => values.len(),
+            Way::Encode | Way::HomeEncoder => {
+                self.encode(values);
+                values.len()
+            }
+            Way::Decode => self.decode(values),
+            Way::HomeDecoder => {
+                self.encode(values);
+                self.decode(values)
+            }
+        }
+    }
+
+    #[tactic(auto, using(quantizer::proofs::Pairs::pair_says, sample::proofs::Tracks::encode_in_range))]
+    fn encode(&mut self, values: &mut [u8]) {
+        let Pair { width, core } = self.pair;
+        let law = u8::from(self.law);
+        for value in values.iter_mut() {
+            let encoded = encode_byte(self.encoder, core, law, width, *value);
+            *value = encoded.codeword;
+            self.encoder = encoded.memory;
+        }
+    }
+
+    // Stops before a value that is no codeword of the width.
+    #[tactic(auto, using(quantizer::proofs::Pairs::pair_says, quantizer::proofs::Pairs::pair_width, sample::proofs::Tracks::play_in_range))]
+    fn decode(&mut self, values: &mut [u8]) -> usize
+        ensures { result ≤ length values.new }
+    {
+        let Pair { width, core } = self.pair;
+        let law = u8::from(self.law);
+        let codewords = count_codewords(width);
+        for (i, value) in values.iter_mut().enumerate() {
+            if codewords <= *value {
+                return i;
+            }
+            let played = decode_byte(self.decoder, core, law, width, *value);
+            *value = played.sample;
+            self.decoder = played.memory;
+        }
+        values.len()
+    }
 }
 
 fn count_codewords(width: u8) -> u8
     requires { Width width }
     ensures { result ≡ 2 ^ width }
 {
-    2 * half(width)
-}
-
-fn decoded(codec: Codec, decoder: Memory, count: usize) -> Made
-    requires { Ready codec × MemoryInRange decoder }
-    ensures { Ready result.codec }
-{
-    let behind = Codec { decoder, ..codec };
-    Made {
-        codec: behind,
-        count,
-    }
+    1u8 << width
 }

@@ -2,30 +2,25 @@
 //
 // What the words ask is the crate `command_line`, how files are opened and read is `streams`, what a text is is `sequence`. One
 // loop goes over a stream, HOMING or standard input (work.rt), in pieces: its values are taken out (pieces.rt), go through the
-// codec (codec.rt) and are written (output.rt), as the stream asks (streaming.rt).
+// codec (codec.rt) and are written (output.rt), as the stream asks (streaming.rt). What stops it is said in one place (stop.rt).
 #![tactic(auto)]
 
 mod codec;
 mod output;
 mod pieces;
-mod report;
+mod stop;
 mod streaming;
 mod work;
 
-use command_line::pages::Paged;
+use command_line::pages::task_of;
 use command_line::program::Program;
-use command_line::status::{WRONG_WORDS, status_of};
-use command_line::{pages, sequences};
+use command_line::sequences;
+use command_line::status::Status;
 
-// Does what the program's words ask, and answers its status
-pub fn run(rt: &HostRuntime) -> u8 {
-    let page = pages::answer(rt, Program::Sequences);
-    if let Paged::Ended(status) = page {
-        return status;
+// Does what the program's words ask
+pub fn run(rt: &HostRuntime) -> Status {
+    match task_of(rt, Program::Sequences, sequences::read) {
+        Ok(task) => work::perform(rt, task),
+        Err(status) => status,
     }
-    let task = sequences::read(rt);
-    if !task.good {
-        return WRONG_WORDS;
-    }
-    status_of(work::perform(rt, task))
 }

@@ -1,10 +1,10 @@
 // A stream, and what is done with its values.
-use command_line::program::Program;
-use command_line::sequences::Command;
+use command_line::sequences::Task;
+use streams::failure::Failure;
 use streams::files;
-use streams::reading::{Name, Source};
+use streams::files::opened;
 
-#[derive(Clone, Copy)]
+#[derive(Clone, Copy, PartialEq, Eq)]
 pub enum Way {
     Read,
     Write,
@@ -14,60 +14,44 @@ pub enum Way {
     HomeDecoder,
 }
 
-// The word is HOMING's place, 0 for standard input
+// The word is HOMING's place, none for standard input.
 #[derive(Drop)]
 pub struct Stream {
     pub way: Way,
-    pub source: Source,
-    pub word: usize,
+    pub source: files::Stream,
+    pub word: Option<usize>,
 }
 
-pub fn standard(command: Command) -> Stream {
-    let source = Source {
-        program: Program::Sequences,
-        stream: files::Stream::Standard,
-        name: Name::Input,
-    };
-    Stream {
-        way: way_of(command),
-        source,
-        word: 0,
+impl Stream {
+    pub fn standard(task: Task) -> Stream {
+        let way = match task {
+            Task::Read => Way::Read,
+            Task::Write => Way::Write,
+            Task::Encode(_) => Way::Encode,
+            Task::Decode(_) => Way::Decode,
+        };
+        Stream {
+            way,
+            source: files::Stream::Standard,
+            word: None,
+        }
     }
-}
 
-fn way_of(command: Command) -> Way {
-    match command {
-        Command::Read => Way::Read,
-        Command::Write => Way::Write,
-        Command::Encode => Way::Encode,
-        Command::Decode => Way::Decode,
+    pub fn homing(rt: &HostRuntime, task: Task, word: usize) -> Result<Stream, Failure> {
+        let way = match task {
+            Task::Decode(_) => Way::HomeDecoder,
+            _ => Way::HomeEncoder,
+        };
+        let source = opened(rt, word, "HOMING")?;
+        Ok(Stream {
+            way,
+            source,
+            word: Some(word),
+        })
     }
-}
 
-pub fn homing(command: Command, stream: files::Stream, word: usize) -> Stream {
-    let source = Source {
-        program: Program::Sequences,
-        stream,
-        name: Name::Homing,
-    };
-    Stream {
-        way: way_home(command),
-        source,
-        word,
-    }
-}
-
-fn way_home(command: Command) -> Way {
-    match command {
-        Command::Decode => Way::HomeDecoder,
-        _ => Way::HomeEncoder,
-    }
-}
-
-// Whether the stream is a text, or an octet a value
-pub fn is_text(way: Way) -> bool {
-    match way {
-        Way::Write => false,
-        _ => true,
+    // Whether it is a text, or an octet a value
+    pub fn is_text(&self) -> bool {
+        self.way != Way::Write
     }
 }

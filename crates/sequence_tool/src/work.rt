@@ -1,121 +1,67 @@
 // What the words ask, done: HOMING first where there is one, then standard input, each of them piece by piece.
-ghost use Rattle.sequence_tool.specs.Ready.{Ready};
-
-use crate::codec;
 use crate::codec::Codec;
-use crate::output::{closed, put_end};
-use crate::pieces::{Turn, first_turn, passed};
-use crate::report::is_sound;
-use crate::streaming::{Stream, homing, is_text, standard};
-use command_line::program::Program;
-use command_line::sequences::Task;
-use sequence::reader;
-use streams::files;
-use streams::files::{hold_standard_streams, opened};
+use crate::output::settle;
+use crate::pieces::{ROOM, Turn};
+use crate::stop::Stop;
+use crate::streaming::Stream;
+use command_line::coding::Pair;
+use command_line::law::Law;
+use command_line::sequences::{Coding, Task};
+use command_line::status::Status;
+use streams::files::hold_standard_streams;
 use streams::reading::read_once;
 
-// Whether all was done, and the codec behind it
-#[derive(Clone, Copy)]
-struct Ran {
-    pub good: bool,
-    pub codec: Codec,
-}
-
-// Answers whether all was done.
-pub fn perform(rt: &HostRuntime, task: Task) -> bool {
+pub fn perform(rt: &HostRuntime, task: Task) -> Status {
     hold_standard_streams(rt);
-    let homed = home(rt, task);
-    let codec = homed.codec;
-    let command = task.command;
-    if !homed.good {
-        return false;
+    match home(rt, task) {
+        Ok(codec) => {
+            let ran = Status::of(rt, run(rt, &Stream::standard(task), codec).map(|_| ()));
+            ran.and(Status::of(rt, settle(rt).map_err(Stop::from)))
+        }
+        Err(stop) => Status::of(rt, Err(stop)),
     }
-    let stream = standard(command);
-    let ran = run(rt, &stream, codec);
-    ran.good & closed(rt)
 }
 
 // From reset, and with HOMING where that is asked for
-fn home(rt: &HostRuntime, task: Task) -> Ran
-    ensures { Ready result.codec }
-{
-    let coding = task.coding;
-    let codec = codec::begun(coding);
-    if task.homing == 0 {
-        return Ran { good: true, codec };
-    }
-    let input = files::Stream::Standard;
-    let source = opened(rt, Program::Sequences, task.homing, input, false);
-    if !source.is_there() {
-        return Ran { good: false, codec };
-    }
-    let command = task.command;
-    let stream = homing(command, source, task.homing);
-    run(rt, &stream, codec)
-}
-
-fn run(rt: &HostRuntime, stream: &Stream, codec: Codec) -> Ran
-    requires { Ready codec }
-    ensures { Ready result.codec }
-{
-    let turn = run_all(rt, stream, first_turn(codec));
-    let behind = turn.codec;
-    Ran {
-        good: ended(rt, stream, turn),
-        codec: behind,
+fn home(rt: &HostRuntime, task: Task) -> Result<Codec, Stop> {
+    let Some(Coding { law, pair, homing }) = coding_of(task) else {
+        // Where nothing is coded, any law and pair will do.
+        return Ok(Codec::new(Law::Mu, Pair { width: 2, core: 2 }));
+    };
+    let codec = Codec::new(law, pair);
+    match homing {
+        None => Ok(codec),
+        Some(word) => run(rt, &Stream::homing(rt, task, word)?, codec),
     }
 }
 
-// A proved loop has to end, and nothing says that a stream does: it ends before a piece whose number no run reaches.
-fn run_all(rt: &HostRuntime, stream: &Stream, from: Turn) -> Turn
-    requires { Ready from.codec }
-    ensures { Ready result.codec }
-{
-    let mut turn = from;
-    let mut pieces = 0;
-    while pieces < u64::MAX && turn.more {
-        turn = next(rt, stream, turn);
-        pieces += 1;
-    }
-    turn
-}
-
-fn next(rt: &HostRuntime, stream: &Stream, turn: Turn) -> Turn
-    requires { Ready turn.codec }
-    ensures { Ready result.codec }
-{
-    let mut piece = io::buffer();
-    let way = stream.way;
-    let found = read_once(rt, &stream.source, &mut piece);
-    let n = found.count;
-    if (n == 0) | !found.good {
-        return stopped(turn, found.good);
-    }
-    passed(rt, way, turn, &mut piece[..n])
-}
-
-// The stream has ended, or cannot be read.
-fn stopped(turn: Turn, good: bool) -> Turn
-    requires { Ready turn.codec }
-    ensures { Ready result.codec }
-{
-    Turn {
-        more: false,
-        good,
-        ..turn
+fn coding_of(task: Task) -> Option<Coding> {
+    match task {
+        Task::Encode(coding) | Task::Decode(coding) => Some(coding),
+        Task::Read | Task::Write => None,
     }
 }
 
-// Answers whether all was well up to the end, and what is left was written.
-fn ended(rt: &HostRuntime, stream: &Stream, turn: Turn) -> bool {
-    let way = stream.way;
-    let reader = turn.reader;
-    let writer = turn.writer;
-    if !turn.good {
-        return false;
+// Answers the codec behind the stream. A proved loop has to end, and nothing says that a stream does: it ends before a piece whose
+// number no run reaches.
+fn run(rt: &HostRuntime, stream: &Stream, codec: Codec) -> Result<Codec, Stop> {
+    let mut turn = Turn::new(codec);
+    for _ in 0..u64::MAX {
+        if !next(rt, stream, &mut turn)? {
+            break;
+        }
     }
-    if is_text(way) && !is_sound(rt, stream.word, reader::end(reader)) {
-        return false;
+    turn.end(rt, stream)?;
+    Ok(turn.codec)
+}
+
+// Answers whether there may be a next piece.
+fn next(rt: &HostRuntime, stream: &Stream, turn: &mut Turn) -> Result<bool, Stop> {
+    let mut piece = [0; ROOM];
+    let n = read_once(rt, &stream.source, &mut piece)?;
+    if n == 0 {
+        return Ok(false);
     }
-    put_end(rt, way, writer)
+    turn.pass(rt, stream, &mut piece[..n])?;
+    Ok(turn.reader.verdict.is_ok())
 }

@@ -1,5 +1,5 @@
 -- The capital digits: each is read back as the number that it was written for, and none is a line feed.
-use Rattle.std.proofs.Common.{◌≡◌, ℕ, ◌+◌, ◌<◌, ◌≤◌, false, eqb, ltb, arith, ne_eqb, eqb-true}
+use Rattle.std.proofs.Common.{◌≡◌, ℕ, ◌+◌, ◌<◌, ◌≤◌, false, eqb, ltb, [], ◌∷◌, get_or, arith, ne_eqb, eqb-true}
 use Rattle.words.proofs.Pick.{by_pick}
 use Rattle.words.proofs.Tests.{below_at, is_true}
 use Rattle.sequence.specs.Limits.{line_feed}
@@ -10,6 +10,11 @@ module _ (d : ℕ) where
   pub capital_read : d < 16 → digit_of (capital d) ≡ d
   unfolding digit_of capital
   capital_read h = eqb-true (digit_of (capital d)) d (is_true _ (below_at (λ k. eqb (digit_of (capital k)) k) 16 d tt h))
+
+  -- the row of them that the code holds
+  pub capital_row : d < 16 → get_or (48 ∷ 49 ∷ 50 ∷ 51 ∷ 52 ∷ 53 ∷ 54 ∷ 55 ∷ 56 ∷ 57 ∷ 65 ∷ 66 ∷ 67 ∷ 68 ∷ 69 ∷ 70 ∷ []) d 0 ≡ capital d
+  unfolding capital
+  capital_row h = eqb-true _ _ (is_true _ (below_at (λ k. eqb (get_or (48 ∷ 49 ∷ 50 ∷ 51 ∷ 52 ∷ 53 ∷ 54 ∷ 55 ∷ 56 ∷ 57 ∷ 65 ∷ 66 ∷ 67 ∷ 68 ∷ 69 ∷ 70 ∷ []) k 0) (capital k)) 16 d tt h))
 
   capital_high : 48 ≤ capital d
   unfolding capital

@@ -1,6 +1,6 @@
 -- A writer, which makes the text of values character by character (docs/RULES.md, "The text of a sequence"): its next character and what becomes of it, a
 -- call on a piece of the values, and the values' end. Any writer may be handed in.
-use Rattle.std.specs.Prelude.{ℕ, zero, suc, ◌+◌, ◌/◌, ◌%◌, Bool, true, false, not, ◌&&◌, ◌||◌, List, [], ◌∷◌, length, drop, ◌==◌, nat_eq, nat_le, nat_lt, slice_index}
+use Rattle.std.specs.Prelude.{ℕ, zero, suc, ◌+◌, ◌/◌, ◌%◌, Bool, true, false, not, ◌&&◌, ◌||◌, List, [], ◌∷◌, length, drop, ◌==◌, nat_eq, nat_le, nat_lt, slice_index, Option, None, Some, is_some, unwrap_or}
 use Rattle.words.specs.Notation.{◌when◌∣◌}
 use Rattle.sequence.specs.Limits.{line_feed, longest, modulus, added}
 use Rattle.sequence_writer.specs.Layout.{capital}
@@ -47,7 +47,7 @@ closed Remainder = Remainder
 closed Done = Done
 
 abbrev pub closing : Writer → Writer
-closing w = record { stage = closed w.stage; column = w.column; value = w.value; sum = w.sum }
+closing w = record w { stage = closed w.stage }
 
 -- behind a line feed: that of the remainder's line is the last character
 abbrev pub behind_line : Stage → Stage
@@ -65,20 +65,24 @@ abbrev pub ends_line : Writer → Bool
 ends_line w = (is_remainder w.stage || nat_le longest w.column) || (is_closing w.stage && not (w.column == 0))
 
 abbrev pub second_digit_of : Writer → Written
-second_digit_of w = record { character = capital (w.value % 16); writer = record { stage = w.stage; column = (w.column + 1) % 256; value = w.value; sum = w.sum } }
+second_digit_of w = record { character = capital (w.value % 16); writer = record w { column = (w.column + 1) % 256 } }
 
 abbrev pub fed_of : Writer → Written
-fed_of w = record { character = line_feed; writer = record { stage = behind_line w.stage; column = 0; value = w.value; sum = w.sum } }
+fed_of w = record { character = line_feed; writer = record w { stage = behind_line w.stage; column = 0 } }
 
 abbrev pub first_digit_of : Writer → ℕ → Written
-first_digit_of w v = record { character = capital (v / 16); writer = record { stage = w.stage; column = (w.column + 1) % 256; value = v; sum = added w.sum v } }
+first_digit_of w v = record { character = capital (v / 16); writer = record w { column = (w.column + 1) % 256; value = v; sum = added w.sum v } }
 
 abbrev pub remainder_of : Writer → Written
-remainder_of w = record { character = capital (w.sum % modulus / 16); writer = record { stage = Remainder; column = 1; value = w.sum % modulus; sum = w.sum } }
+remainder_of w = record { character = capital (w.sum % modulus / 16); writer = record w { stage = Remainder; column = 1; value = w.sum % modulus } }
 
 -- the next character, and the writer behind it; where the writer awaits a value it is v
 unfoldable pub next_of : Writer → ℕ → Written
 next_of w v = second_digit_of w when nat_eq (w.column % 2) 1 ∣ fed_of w when ends_line w ∣ first_digit_of w v when awaits w ∣ remainder_of w
+
+-- it, where one is due: the writer is not done, and does not await a value where none is handed in
+abbrev pub due_of : Writer → Option ℕ → Option Written
+due_of w v = None when is_done w.stage || (awaits w && not (is_some v)) ∣ Some (next_of w (unwrap_or v 0))
 
 abbrev pub taken_by : Writer → ℕ
 taken_by w = 1 when awaits w ∣ 0

@@ -6,8 +6,5 @@ pub fn capital(digit: u8) -> u8
     requires { digit < 16 }
     ensures { result ≡ capital digit }
 {
-    if digit < 10 {
-        return b'0' + digit;
-    }
-    b'A' - 10 + digit
+    b"0123456789ABCDEF"[usize::from(digit)]
 }

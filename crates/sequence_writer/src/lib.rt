@@ -3,15 +3,15 @@
 
 mod digits;
 
-ghost use Rattle.std.specs.Prelude.{◌≡◌, slice_index};
-ghost use Rattle.sequence_writer.specs.Writing.{blank, closed, closing, behind_line, is_values, is_closing, is_remainder, is_done, awaits, ends_line, second_digit_of, fed_of, first_digit_of, remainder_of, next_of, Writes};
+ghost use Rattle.std.specs.Prelude.{◌≡◌};
+ghost use Rattle.sequence_writer.specs.Writing.{blank, closed, closing, behind_line, is_done, awaits, ends_line, second_digit_of, fed_of, first_digit_of, remainder_of, due_of, Writes};
 
 use crate::digits::capital;
 use sequence::limits::{LINE_FEED, LONGEST};
 use sequence::modular::{added, remainder_of};
 
 // What is written: values; the rest of their last line; the remainder's line; nothing more
-#[derive(Clone, Copy)]
+#[derive(Clone, Copy, PartialEq, Eq, Debug)]
 pub enum Stage {
     Values,
     Closing,
@@ -20,7 +20,7 @@ pub enum Stage {
 }
 
 // Between two characters: how many of the line were written, the value whose second digit is due where that is one, and the sum of
-// all values, modulo 255
+// all values, modulo 255. `value` is no Option: a program hands in and prints a writer, and any number may stand there (docs/ANSWERS.md).
 #[derive(Clone, Copy)]
 pub struct Writer {
     pub stage: Stage,
@@ -29,7 +29,8 @@ pub struct Writer {
     pub sum: u8,
 }
 
-// The writer behind the values that were taken, and how many characters were written
+// The writer behind the values that were taken, and how many characters were written. Not one generic with the reader's: Reads and Writes
+// speak of a reader and a writer.
 #[derive(Clone, Copy)]
 pub struct WriteAnswer {
     pub writer: Writer,
@@ -53,12 +54,9 @@ pub fn begin() -> Writer
 pub fn end(w: Writer) -> Writer
     ensures { result ≡ closing w }
 {
-    let stage = w.stage;
     Writer {
-        stage: closed(stage),
-        column: w.column,
-        value: w.value,
-        sum: w.sum,
+        stage: closed(w.stage),
+        ..w
     }
 }
 
@@ -67,39 +65,32 @@ fn closed(stage: Stage) -> Stage
 {
     match stage {
         Stage::Values => Stage::Closing,
-        Stage::Closing => Stage::Closing,
-        Stage::Remainder => Stage::Remainder,
-        Stage::Done => Stage::Done,
+        later => later,
     }
 }
 
-// Writes characters until there is no room, or none is due
+// Writes characters until there is no room, or none is due. `taken` is counted: it is answered.
 pub fn write(from: Writer, values: &[u8], text: &mut [u8]) -> WriteAnswer
     ensures { Writes from values.now text.old text.new result }
 {
-    let mut w = from;
+    let mut writer = from;
     let mut taken = 0;
-    let mut written = 0;
-    while written < text.len() {
-        let needs = awaits(w);
-        if is_done(w) | (needs & (values.len() <= taken)) {
+    for (written, character) in text.iter_mut().enumerate() {
+        let Some(next) = next(writer, values.get(taken).copied()) else {
             return WriteAnswer {
-                writer: w,
+                writer,
                 taken,
                 written,
             };
-        }
-        let s = next(w, value_at(values, taken));
-        text[written] = s.character;
-        written += 1;
-        taken += needs as usize;
-        let behind = s.writer;
-        w = behind;
+        };
+        *character = next.character;
+        taken += usize::from(awaits(writer));
+        writer = next.writer;
     }
     WriteAnswer {
-        writer: w,
+        writer,
         taken,
-        written,
+        written: text.len(),
     }
 }
 
@@ -110,35 +101,35 @@ struct Written {
     pub writer: Writer,
 }
 
-// The next character, where one is due; where it is the first of a value, the value is the one that is handed in.
-fn next(w: Writer, value: u8) -> Written
-    ensures { result ≡ next_of w value }
+// The next character. None is due behind the end, nor where a value is to be begun and none is handed in.
+#[tactic(auto, unfolding(crate::specs::Writing::next_of))]
+fn next(w: Writer, value: Option<u8>) -> Option<Written>
+    ensures { result ≡ due_of w value }
 {
-    if w.column % 2 == 1 {
-        return second_digit(w);
-    }
-    if ends_line(w) {
-        return fed(w);
+    if is_done(w) {
+        return None;
     }
     if awaits(w) {
-        return first_digit(w, value);
+        return Some(first_digit(w, value?));
     }
-    remainder_begun(w)
+    if w.column % 2 == 1 {
+        return Some(second_digit(w));
+    }
+    if ends_line(w) {
+        return Some(fed(w));
+    }
+    Some(remainder_begun(w))
 }
 
 fn second_digit(w: Writer) -> Written
     ensures { result ≡ second_digit_of w }
 {
-    let stage = w.stage;
-    let writer = Writer {
-        stage,
-        column: std::num::wrapping_add_u8(w.column, 1),
-        value: w.value,
-        sum: w.sum,
-    };
     Written {
         character: capital(w.value % 16),
-        writer,
+        writer: Writer {
+            column: w.column.wrapping_add(1),
+            ..w
+        },
     }
 }
 
@@ -146,16 +137,13 @@ fn second_digit(w: Writer) -> Written
 fn fed(w: Writer) -> Written
     ensures { result ≡ fed_of w }
 {
-    let stage = w.stage;
-    let writer = Writer {
-        stage: behind_line(stage),
-        column: 0,
-        value: w.value,
-        sum: w.sum,
-    };
     Written {
         character: LINE_FEED,
-        writer,
+        writer: Writer {
+            stage: behind_line(w.stage),
+            column: 0,
+            ..w
+        },
     }
 }
 
@@ -163,43 +151,37 @@ fn behind_line(stage: Stage) -> Stage
     ensures { result ≡ behind_line stage }
 {
     match stage {
-        Stage::Values => Stage::Values,
-        Stage::Closing => Stage::Closing,
         Stage::Remainder => Stage::Done,
-        Stage::Done => Stage::Done,
+        other => other,
     }
 }
 
 fn first_digit(w: Writer, value: u8) -> Written
     ensures { result ≡ first_digit_of w value }
 {
-    let stage = w.stage;
-    let writer = Writer {
-        stage,
-        column: std::num::wrapping_add_u8(w.column, 1),
-        value,
-        sum: added(w.sum, value),
-    };
     Written {
         character: capital(value / 16),
-        writer,
+        writer: Writer {
+            column: w.column.wrapping_add(1),
+            value,
+            sum: added(w.sum, value),
+            ..w
+        },
     }
 }
 
 fn remainder_begun(w: Writer) -> Written
     ensures { result ≡ remainder_of w }
 {
-    let stage = Stage::Remainder;
     let value = remainder_of(w.sum);
-    let writer = Writer {
-        stage,
-        column: 1,
-        value,
-        sum: w.sum,
-    };
     Written {
         character: capital(value / 16),
-        writer,
+        writer: Writer {
+            stage: Stage::Remainder,
+            column: 1,
+            value,
+            ..w
+        },
     }
 }
 
@@ -207,69 +189,18 @@ fn remainder_begun(w: Writer) -> Written
 fn awaits(w: Writer) -> bool
     ensures { result ≡ awaits w }
 {
-    let stage = w.stage;
-    is_values(stage) & (w.column % 2 == 0) & (w.column < LONGEST)
+    w.stage == Stage::Values && w.column % 2 == 0 && w.column < LONGEST
 }
 
 // Whether a line feed is due, the column being even
 fn ends_line(w: Writer) -> bool
     ensures { result ≡ ends_line w }
 {
-    let stage = w.stage;
-    is_remainder(stage) | (LONGEST <= w.column) | (is_closing(stage) & (w.column != 0))
-}
-
-fn is_values(stage: Stage) -> bool
-    ensures { result ≡ is_values stage }
-{
-    match stage {
-        Stage::Values => true,
-        Stage::Closing => false,
-        Stage::Remainder => false,
-        Stage::Done => false,
-    }
-}
-
-fn is_closing(stage: Stage) -> bool
-    ensures { result ≡ is_closing stage }
-{
-    match stage {
-        Stage::Values => false,
-        Stage::Closing => true,
-        Stage::Remainder => false,
-        Stage::Done => false,
-    }
-}
-
-fn is_remainder(stage: Stage) -> bool
-    ensures { result ≡ is_remainder stage }
-{
-    match stage {
-        Stage::Values => false,
-        Stage::Closing => false,
-        Stage::Remainder => true,
-        Stage::Done => false,
-    }
+    w.stage == Stage::Remainder || LONGEST <= w.column || w.stage == Stage::Closing && w.column != 0
 }
 
 pub fn is_done(w: Writer) -> bool
     ensures { result ≡ is_done w.stage }
 {
-    let stage = w.stage;
-    match stage {
-        Stage::Values => false,
-        Stage::Closing => false,
-        Stage::Remainder => false,
-        Stage::Done => true,
-    }
-}
-
-// The value at a place, 0 where there is none
-fn value_at(values: &[u8], at: usize) -> u8
-    ensures { result ≡ slice_index values.now at }
-{
-    if at < values.len() {
-        return values[at];
-    }
-    0
+    w.stage == Stage::Done
 }

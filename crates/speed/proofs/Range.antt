@@ -1,5 +1,5 @@
 -- Speed control stays in the rules' ranges: DMS up to 3,584, DML up to 14,336, AP up to 512. Each average moves towards a target that is in the
--- range itself, and never past it.
+-- range itself, and never past it. One law of every number of bits would go by products of variables, and be longer than the three.
 use mathlib.Core.Bool.{◌&&◌}
 use mathlib.Core.Path.{◌≡◌}
 use Prim.Native.Nat.{ℕ, ◌+◌, ◌-◌, ◌*◌, ◌/◌, ◌%◌, ◌≤◌}

@@ -1,27 +1,16 @@
 -- The numbers of a state say all of it: two states with the same numbers are equal. That there are six B and six DQ is said by the types of the
 -- code; here it is asked for.
-use mathlib.Core.Bool.{Bool, true}
-use mathlib.Core.List.{List, [], ◌∷◌}
-use mathlib.Core.Path.{◌≡◌, refl, sym, ap, subst, ◌∙◌}
+use mathlib.Core.Bool.{true}
+use mathlib.Core.List.{List}
+use mathlib.Core.Path.{◌≡◌, sym, ap, ◌∙◌}
 use Prim.Native.Nat.{ℕ, zero, suc, ◌<◌}
 use native.Mathlib.Omega.{arith}
-use lib.Dec.{T}
 use lib.ListN.{length, get_or}
 use lib.Seq.{ext_get_or}
-use borrow.Author.Tests.{eqb-true}
-use Rattle.words.proofs.Rows.{both}
+use Rattle.std.specs.Cmp.Lexicographic.{same_text}
 use Rattle.state.specs.declared.State.{State}
 use Rattle.state.specs.Words.{Words}
 use Rattle.state.specs.Numbers.{numbers_of, same_numbers}
-
-same_says : (xs ys : List ℕ) → same_numbers xs ys ≡ true → xs ≡ ys
-unfolding same_numbers
-same_says [] [] e = refl
-same_says [] (y ∷ ys) e = absurd (subst (λ (b : Bool). T b) (sym e) tt)
-same_says (x ∷ xs) [] e = absurd (subst (λ (b : Bool). T b) (sym e) tt)
-same_says (x ∷ xs) (y ∷ ys) e =
-    let rows = both _ _ e in
-    λ i. eqb-true x y rows.0 i ∷ same_says xs ys rows.1 i
 
 module _ (f g : ℕ → ℕ) where
   below_six : f 0 ≡ g 0 → f 1 ≡ g 1 → f 2 ≡ g 2 → f 3 ≡ g 3 → f 4 ≡ g 4 → f 5 ≡ g 5 → (k : ℕ) → k < 6 → f k ≡ g k
@@ -71,4 +60,5 @@ module _ (s t : State) (ws : Words s.memory) (wt : Words t.memory) (e : numbers_
 
 -- `same_state` answers true of equal states alone
 pub same_state_says : (s t : State) → Words s.memory → Words t.memory → same_numbers (numbers_of s) (numbers_of t) ≡ true → s ≡ t
-same_state_says s t ws wt e = numbers_fix s t ws wt (same_says (numbers_of s) (numbers_of t) e)
+unfolding same_numbers
+same_state_says s t ws wt e = numbers_fix s t ws wt (same_text (numbers_of s) (numbers_of t) (sym e))

@@ -1,11 +1,13 @@
 -- The rules' table as a test and as facts: each follows from the other. The reset state is in range, its words are words, and its core and number are
 -- those that it was made with.
 use mathlib.Core.Bool.{true}
-use mathlib.Core.List.{List}
+use mathlib.Core.List.{List, [], ◌∷◌}
 use mathlib.Core.Path.{◌≡◌, refl}
 use Prim.Native.Nat.{ℕ, ◌/◌, ◌%◌, zero-le, ◌≤◌}
 use native.Mathlib.Omega.{arith}
-use lib.ListN.{get_or}
+use lib.ListN.{length, get_or}
+use Rattle.std.specs.List.{list_all}
+use Rattle.words.specs.Every.{every}
 use borrow.Author.Tests.{leb-true, ltb-true, le-leb, lt-ltb}
 use Rattle.words.specs.Within.{Within, within}
 use Rattle.words.proofs.Rows.{every_says, every_of}
@@ -40,6 +42,18 @@ words_say dq t =
       dq5 = float_says 14 (get_or dq 4 0) r.1.1.1.1.0;
       dq6 = float_says 14 (get_or dq 5 0) r.1.1.1.1.1.0;
     }
+
+-- six words are tested one after the other
+pub six_float_words : (dq : List ℕ) → length dq ≡ 6 → float_words dq ≡ list_all (λ w. is_float_word 14 w) dq
+unfolding float_words every
+six_float_words (a ∷ b ∷ c ∷ d ∷ e ∷ f ∷ []) h = refl
+six_float_words [] h = absurd (omega arith)
+six_float_words (a ∷ []) h = absurd (omega arith)
+six_float_words (a ∷ b ∷ []) h = absurd (omega arith)
+six_float_words (a ∷ b ∷ c ∷ []) h = absurd (omega arith)
+six_float_words (a ∷ b ∷ c ∷ d ∷ []) h = absurd (omega arith)
+six_float_words (a ∷ b ∷ c ∷ d ∷ e ∷ []) h = absurd (omega arith)
+six_float_words (a ∷ b ∷ c ∷ d ∷ e ∷ f ∷ x ∷ xs) h = absurd (omega arith)
 
 words_of : {dq : List ℕ} → FloatWords dq → float_words dq ≡ true
 unfolding float_words

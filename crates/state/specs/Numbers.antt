@@ -1,6 +1,7 @@
 -- The numbers of a state, in the order of the rules' table (docs/RULES.md, "The state"), a row's variables as it names them; and whether two
 -- states have the same ones.
-use Rattle.std.specs.Prelude.{Bool, true, false, ◌&&◌, List, [], ◌∷◌, ℕ, eqb, get_or}
+use Rattle.std.specs.Prelude.{Bool, List, [], ◌∷◌, ℕ, eqb, get_or}
+use Rattle.std.specs.Cmp.Lexicographic.{pointwise}
 use Rattle.state.specs.declared.State.{State}
 
 -- how many there are
@@ -18,7 +19,4 @@ numbers_of s =
     s.core ∷ s.number ∷ []
 
 unfoldable pub same_numbers : List ℕ → List ℕ → Bool
-same_numbers [] [] = true
-same_numbers [] (y ∷ ys) = false
-same_numbers (x ∷ xs) [] = false
-same_numbers (x ∷ xs) (y ∷ ys) = eqb x y && same_numbers xs ys
+same_numbers = pointwise eqb

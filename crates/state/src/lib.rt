@@ -3,23 +3,26 @@
 // hands the next one back.
 #![tactic(auto)]
 
+pub mod answer;
 pub mod memory;
 pub mod numbers;
 
 ghost use Rattle.std.specs.Prelude.{◌≡◌};
+ghost use Rattle.words.specs.Within.{within};
 ghost use Rattle.state.specs.Reset.{reset_of};
 ghost use Rattle.state.specs.Moved.{moved_on};
 ghost use Rattle.state.specs.Range.{in_range};
 
-use crate::memory::{Memory, memory_in_range, reset_memory, within};
+use crate::memory::{Memory, memory_in_range, reset_memory};
 
-#[derive(Clone, Copy)]
+#[derive(Clone, Copy, PartialEq, Eq, Debug)]
 pub struct State {
     pub memory: Memory,
     pub core: u8,
     pub number: u8,
 }
 
+#[tactic(auto, unfolding(crate::specs::Reset::reset_of))]
 pub fn reset(core: u8) -> State
     ensures { result ≡ reset_of core }
 {
@@ -42,9 +45,16 @@ pub fn moved_on(s: State, memory: Memory, number: u8) -> State
 }
 
 // The rules' table of ranges, the core's row too. The number may be any octet, so it has no test.
+#[tactic(auto, unfolding(crate::specs::Range::in_range, words::specs::Every::every))]
 pub fn in_range(s: State) -> bool
     ensures { result ≡ in_range s }
 {
-    let memory = s.memory;
-    memory_in_range(memory) & within(2, 4, s.core as u32)
+    memory_in_range(s.memory) && is_core(s.core)
+}
+
+// The core's row, by which reset goes too
+pub fn is_core(core: u8) -> bool
+    ensures { result ≡ within 2 4 core }
+{
+    (2..=4).contains(&core)
 }

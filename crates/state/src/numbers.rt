@@ -7,65 +7,47 @@ use crate::State;
 
 pub const NUMBERS: usize = 26;
 
+#[tactic(auto, unfolding(crate::specs::Numbers::numbers_of))]
 pub fn numbers(s: State) -> [u32; NUMBERS]
     ensures { result ≡ numbers_of s }
 {
     let m = s.memory;
-    let b = m.b;
-    let dq = m.dq;
+    let [b1, b2, b3, b4, b5, b6] = m.b;
+    let [dq1, dq2, dq3, dq4, dq5, dq6] = m.dq;
     [
-        of_word(m.yu),
+        u32::from(m.yu),
         m.yl,
-        of_word(m.dms),
-        of_word(m.dml),
-        of_word(m.ap),
-        of_word(m.a1),
-        of_word(m.a2),
-        of_word(b[0]),
-        of_word(b[1]),
-        of_word(b[2]),
-        of_word(b[3]),
-        of_word(b[4]),
-        of_word(b[5]),
-        of_word(dq[0]),
-        of_word(dq[1]),
-        of_word(dq[2]),
-        of_word(dq[3]),
-        of_word(dq[4]),
-        of_word(dq[5]),
-        of_word(m.sr1),
-        of_word(m.sr2),
-        of_word(m.pk1),
-        of_word(m.pk2),
-        of_word(m.td),
-        of_octet(s.core),
-        of_octet(s.number),
+        u32::from(m.dms),
+        u32::from(m.dml),
+        u32::from(m.ap),
+        u32::from(m.a1),
+        u32::from(m.a2),
+        u32::from(b1),
+        u32::from(b2),
+        u32::from(b3),
+        u32::from(b4),
+        u32::from(b5),
+        u32::from(b6),
+        u32::from(dq1),
+        u32::from(dq2),
+        u32::from(dq3),
+        u32::from(dq4),
+        u32::from(dq5),
+        u32::from(dq6),
+        u32::from(m.sr1),
+        u32::from(m.sr2),
+        u32::from(m.pk1),
+        u32::from(m.pk2),
+        u32::from(m.td),
+        u32::from(s.core),
+        u32::from(s.number),
     ]
 }
 
-fn of_word(w: u16) -> u32
-    ensures { result ≡ w }
-{
-    w as u32
-}
-
-fn of_octet(o: u8) -> u32
-    ensures { result ≡ o }
-{
-    o as u32
-}
-
+// By numbers: same_numbers, which docs/LAWS.md names, is of the lists.
+#[tactic(auto, unfolding(crate::specs::Numbers::same_numbers))]
 pub fn same_state(s: State, t: State) -> bool
     ensures { result ≡ same_numbers (numbers_of s) (numbers_of t) }
 {
-    let these = numbers(s);
-    let those = numbers(t);
-    let mut i = 0;
-    while i < NUMBERS {
-        if these[i] != those[i] {
-            return false;
-        }
-        i += 1;
-    }
-    true
+    numbers(s) == numbers(t)
 }

@@ -1,45 +1,27 @@
 // Files that a word of the call names, opened, and the standard streams kept apart from them.
+use crate::failure::Failure;
 use crate::names::unnamed;
-use command_line::call_words::copy_word;
-use command_line::program::{Program, fail, said_by};
-use command_line::wrong::worded;
-use std::fs;
+use command_line::call_words::Word;
 use std::fs::File;
-use std::io::Error;
 use std::os::fd::{AsRawFd, IntoRawFd};
-use text::STDERR;
+use std::{fs, io};
 
-// Where octets come from or go to: nowhere, the standard stream that is there without a word, or the file of a word
+// Where octets come from or go to: the standard stream, or a file and the name that it is told of by
 #[derive(Drop)]
 pub enum Stream {
-    Nothing,
     Standard,
-    Opened(File),
+    Opened(File, &'static str),
 }
 
-impl Stream {
-    pub fn is_there(&self) -> bool {
-        match self {
-            Stream::Nothing => false,
-            Stream::Standard | Stream::Opened(_) => true,
-        }
-    }
-
-    pub fn is_standard(&self) -> bool {
-        match self {
-            Stream::Standard => true,
-            Stream::Nothing | Stream::Opened(_) => false,
-        }
-    }
-}
+// The number of standard error, the greatest of the standard streams
+const STDERR: i32 = 2;
 
 // A file gets the least number that is free. Where a standard stream is closed, its number is taken here, so that no line that is
 // said lands in a file of the task.
 pub fn hold_standard_streams(rt: &HostRuntime) {
-    // There are three of them.
-    hold_standard(rt);
-    hold_standard(rt);
-    hold_standard(rt);
+    for _ in 0..=STDERR {
+        hold_standard(rt);
+    }
 }
 
 // A number that is no standard stream's is free again behind this.
@@ -52,32 +34,28 @@ fn hold_standard(rt: &HostRuntime) {
     }
 }
 
-// The word's file, or what is there where there is no word. Says where it cannot be opened, and then it is nothing.
-pub fn opened(
-    rt: &HostRuntime,
-    program: Program,
-    word: usize,
-    standard: Stream,
-    written: bool,
-) -> Stream {
-    if word == 0 {
-        return standard;
-    }
-    match open_word(rt, word, written) {
-        Ok(file) => Stream::Opened(file),
-        Err(error) => {
-            let line = said_by(program).text(b"cannot open '");
-            fail(worded(rt, line, word).octet(b'\''), error);
-            Stream::Nothing
-        }
+// The file of the word there, to be read
+pub fn opened(rt: &HostRuntime, place: usize, name: &'static str) -> Result<Stream, Failure> {
+    stream_of(open_word(rt, place, false), place, name)
+}
+
+// The file of the word there, made or emptied, to be written
+pub fn created(rt: &HostRuntime, place: usize, name: &'static str) -> Result<Stream, Failure> {
+    stream_of(open_word(rt, place, true), place, name)
+}
+
+fn stream_of(file: io::Result<File>, place: usize, name: &'static str) -> Result<Stream, Failure> {
+    match file {
+        Ok(file) => Ok(Stream::Opened(file, name)),
+        Err(error) => Err(Failure::Unopened(place, error)),
     }
 }
 
-fn open_word(rt: &HostRuntime, word: usize, written: bool) -> Result<File, Error> {
-    let mut name = io::buffer();
-    let n = copy_word(rt, word, &mut name);
-    let Ok(path) = str::from_utf8(&name[..n]) else {
-        return Err(unnamed(rt, &name[..n], written));
+fn open_word(rt: &HostRuntime, place: usize, written: bool) -> io::Result<File> {
+    let word = Word::at(rt, place).ok_or(io::ErrorKind::NotFound)?;
+    let name = word.as_bytes();
+    let Ok(path) = str::from_utf8(name) else {
+        return Err(unnamed(rt, name, written));
     };
     if written {
         return fs::create(rt, path);

@@ -50,6 +50,6 @@ fn has_name(rt: &HostRuntime, folder: &[u8], name: &[u8]) -> Result<bool, Error>
     Ok(
         names
             .split(|octet| *octet == 0)
-            .any(|listed| check::same(listed, name)),
+            .any(|listed| listed == name),
     )
 }

@@ -1,22 +1,18 @@
-// The numbers of a state, in the order of the rules' table. Before the first stands one mark, before each of the others
-// another.
-use crate::Line;
+// The numbers of a state, in the order of the rules' table.
 use state::State;
-use state::numbers::{NUMBERS, numbers};
+use state::numbers::numbers;
+use std::fmt;
+use std::fmt::{Display, Formatter};
 
-impl Line {
-    pub fn state(self, first: u8, mark: u8, s: State) -> Line {
-        let values = numbers(s);
-        let mut line = self.variable(first, values[0]);
-        let mut i = 1;
-        while i < NUMBERS {
-            line = line.variable(mark, values[i]);
-            i += 1;
-        }
-        line
-    }
+// With the mark between two of them
+#[derive(Clone, Copy)]
+pub struct Variables<'a> {
+    pub state: State,
+    pub mark: &'a str,
+}
 
-    fn variable(self, mark: u8, v: u32) -> Line {
-        self.marked(mark, v as u64)
+impl Display for Variables<'_> {
+    fn fmt<W: fmt::Write>(&self, f: &mut Formatter<W>) -> fmt::Result {
+        f.write_joined(numbers(self.state).iter(), self.mark)
     }
 }

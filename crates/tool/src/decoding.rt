@@ -1,44 +1,47 @@
-// decode: a frame in, samples out. The core is that of the first frame.
-use crate::speech::{octet_count, room};
-use crate::work::{Made, answered};
-use command_line::coding::Coding;
-use command_line::law::LINEAR;
+// decode: a frame in, samples out.
+use crate::making::{Made, ROOM};
+use arrayvec::ArrayVec;
+use command_line::law::{Law, Speech};
 use decode::decode;
 use decode_linear::decode_linear;
-use frame::header::read_header;
+use frame::header::{MOST_SAMPLES, read_header};
+use replies::Refusal;
 use reset::reset;
 use state::State;
+use state::answer::Answer;
 use text::samples::{Order, octets_of};
 
-pub fn decoded(coding: Coding, s: State, octets: &[u8]) -> Made {
-    if coding.law == LINEAR {
-        return decoded_linear(s, octets);
+pub fn decoded(speech: Speech, frame: u64, s: State, octets: &[u8]) -> Result<Made, Refusal> {
+    let s = state_at(frame, s, octets);
+    match speech {
+        Speech::Companded(law) => decoded_companded(law, s, octets),
+        Speech::Linear => decoded_linear(s, octets),
     }
-    let mut out = io::buffer();
-    let answer = decode(s, coding.law, octets, &mut out);
-    let reply = answer.reply;
-    let state = answer.state;
-    answered(reply, out, answer.octets, state)
 }
 
-fn decoded_linear(s: State, octets: &[u8]) -> Made {
-    let mut samples = room();
-    let mut out = io::buffer();
-    let answer = decode_linear(s, octets, &mut samples);
-    let reply = answer.reply;
-    let state = answer.state;
-    // All that there is room for: the frame's are the first of them, and these alone are counted.
-    octets_of(&samples, Order::LowFirst, &mut out);
-    answered(reply, out, octet_count(LINEAR, answer.samples), state)
+fn decoded_companded(law: Law, s: State, octets: &[u8]) -> Result<Made, Refusal> {
+    let mut out = ArrayVec::from([0; ROOM]);
+    let Answer { state, done } = decode(s, u8::from(law), octets, out.as_mut_slice());
+    out.truncate(done?.samples);
+    Ok(Made { octets: out, state })
 }
 
-// Before the first frame the state is reset, to the core that its header has
-pub fn state_at(frame: u64, s: State, octets: &[u8]) -> State {
+fn decoded_linear(s: State, octets: &[u8]) -> Result<Made, Refusal> {
+    let mut samples = [0; MOST_SAMPLES];
+    let Answer { state, done } = decode_linear(s, octets, &mut samples);
+    let n = done?.samples.min(MOST_SAMPLES);
+    let mut out = ArrayVec::from([0; ROOM]);
+    let count = octets_of(&samples[..n], Order::LowFirst, out.as_mut_slice());
+    out.truncate(count);
+    Ok(Made { octets: out, state })
+}
+
+// Before the first frame the state is reset, to the core that its header has.
+fn state_at(frame: u64, s: State, octets: &[u8]) -> State {
     if 0 < frame {
         return s;
     }
     let header = read_header(octets);
     let started = reset(header.core);
-    let state = started.state;
-    state
+    started.state
 }

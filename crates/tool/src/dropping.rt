@@ -1,45 +1,43 @@
 // drop: a frame in, a frame with fewer planes out.
-use crate::work::{Made, answered};
-use command_line::cutting::Cut;
+ghost use Rattle.std.specs.Prelude.{◌≡◌, ◌<◌, ◌%◌, get_or, length, max, min};
+
+use crate::making::{Made, ROOM};
+use arrayvec::ArrayVec;
 use drop_planes::drop_planes;
 use frame::header::{Header, read_header};
+use replies::Refusal;
 use state::State;
 
-pub fn dropped(width: u8, s: State, octets: &[u8]) -> Made {
-    let mut out = io::buffer();
-    let answer = drop_planes(octets, width, &mut out);
-    let reply = answer.reply;
-    answered(reply, out, answer.octets, s)
+pub fn dropped(width: u8, s: State, octets: &[u8]) -> Result<Made, Refusal> {
+    let mut out = ArrayVec::from([0; ROOM]);
+    let count = drop_planes(octets, width, out.as_mut_slice())?;
+    out.truncate(count);
+    Ok(Made {
+        octets: out,
+        state: s,
+    })
 }
 
-// The width that the frame is to get: the one width or the list's, as it is or at most
-pub fn width_of(cut: Cut, widths: &[u8], frame: u64, octets: &[u8]) -> u8 {
-    let asked = width_at(cut.width, widths, frame);
-    if cut.most {
+// The width that the frame is to get: the next of those that are asked for, as it is or at most
+pub fn width_of(most: bool, widths: &[u8], frame: u64, octets: &[u8]) -> u8 {
+    let asked = width_at(widths, frame);
+    if most {
         return at_most(asked, read_header(octets));
     }
     asked
 }
 
-// Behind the last of the list comes the first.
-fn width_at(width: u8, widths: &[u8], frame: u64) -> u8 {
-    if widths.len() == 0 {
-        return width;
-    }
-    let at = (frame % (widths.len() as u64)) as usize;
-    if at < widths.len() {
-        return widths[at];
-    }
-    width
+// Behind the last comes the first. There is one at least; where there were none, the call would refuse the 0.
+fn width_at(widths: &[u8], frame: u64) -> u8
+    ensures { 0 < length widths.now → result ≡ get_or widths.now (frame % length widths.now) 0 }
+{
+    let place = frame.checked_rem(widths.len() as u64).unwrap_or(0);
+    widths.get(place as usize).copied().unwrap_or(0)
 }
 
 // Never above the frame's own width, and never below its core
-fn at_most(asked: u8, header: Header) -> u8 {
-    if asked < header.core {
-        return header.core;
-    }
-    if header.width < asked {
-        return header.width;
-    }
-    asked
+fn at_most(asked: u8, header: Header) -> u8
+    ensures { result ≡ max (min asked header.width) header.core }
+{
+    asked.min(header.width).max(header.core)
 }

@@ -1,79 +1,101 @@
 // inspect: a heading, a line for each frame, and totals.
-use crate::work::{Made, Turn};
-use frame::header::{Header, frame_reply, is_numbered, read_header};
-use state::State;
-use text::Line;
+ghost use Rattle.std.specs.Prelude.{◌≡◌, ◌+◌, ◌*◌, ◌/◌, ◌^◌, ◌<◌, ◌≤◌, max};
 
-// No stream goes beyond it, and no product of what is below it is too great.
+use crate::making::{Made, ROOM};
+use arrayvec::ArrayVec;
+use frame::header::{Header, frame_reply, is_numbered, read_header};
+use replies::Refusal;
+use state::State;
+use std::fmt;
+use std::fmt::{Display, Formatter};
+use std::io::Write;
+
+// No product of what is at most this is too great.
 const MOST: u64 = 1 << 48;
 
-pub fn heading() -> Line {
-    Line::empty().text(b"frame edition x y g number octets\n")
+pub const HEADING: &str = "frame edition x y g number octets";
+
+#[derive(Clone, Copy)]
+struct Row {
+    frame: u64,
+    header: Header,
+    octets: usize,
 }
 
-pub fn inspected(frame: u64, s: State, octets: &[u8]) -> Made {
+#[derive(Clone, Copy)]
+pub struct Totals {
+    pub frames: u64,
+    pub octets: u64,
+    pub samples: u64,
+}
+
+pub fn inspected(frame: u64, s: State, octets: &[u8]) -> Result<Made, Refusal> {
     let header = read_header(octets);
-    let reply = frame_reply(header, octets.len());
-    let fields = Line::empty()
-        .number(frame)
-        .next(header.edition as u64)
-        .next(header.width as u64)
-        .next(header.core as u64)
-        .next(header.groups as u64);
-    let line = with_number(fields, header)
-        .next(octets.len() as u64)
-        .octet(b'\n');
-    Made {
-        reply,
+    frame_reply(header, octets.len())?;
+    let row = Row {
+        frame,
+        header,
+        octets: octets.len(),
+    };
+    let mut line = ArrayVec::from([0; ROOM]);
+    line.clear();
+    // A row is shorter than the room.
+    let _ = writeln!(line, "{row}");
+    Ok(Made {
         octets: line,
         state: s,
+    })
+}
+
+// A dash where frames of the edition bear no number
+impl Display for Row {
+    fn fmt<W: fmt::Write>(&self, f: &mut Formatter<W>) -> fmt::Result {
+        let Header {
+            edition,
+            width,
+            core,
+            groups,
+            number,
+        } = self.header;
+        let frame = self.frame;
+        let octets = self.octets;
+        if is_numbered(edition) {
+            return write!(
+                f,
+                "{frame} {edition} {width} {core} {groups} {number} {octets}"
+            );
+        }
+        write!(f, "{frame} {edition} {width} {core} {groups} - {octets}")
     }
 }
 
-// A dash where frames of the edition bear none
-fn with_number(line: Line, header: Header) -> Line {
-    if is_numbered(header.edition) {
-        return line.next(header.number as u64);
+impl Display for Totals {
+    fn fmt<W: fmt::Write>(&self, f: &mut Formatter<W>) -> fmt::Result {
+        let milliseconds = self.samples / 8;
+        let tenths = rate(self.octets, milliseconds);
+        write!(
+            f,
+            "frames: {}; samples: {}; seconds: {}.{:03}; kbit/s: {}.{}",
+            self.frames,
+            self.samples,
+            milliseconds / 1000,
+            milliseconds % 1000,
+            tenths / 10,
+            tenths % 10
+        )
     }
-    line.text(b" -")
 }
 
-pub fn totals(turn: Turn) -> Line {
-    let milliseconds = turn.samples / 8;
-    let tenths = rate(turn.octet, milliseconds);
-    Line::empty()
-        .text(b"frames: ")
-        .number(turn.frame)
-        .text(b"; samples: ")
-        .number(turn.samples)
-        .text(b"; seconds: ")
-        .number(milliseconds / 1000)
-        .octet(b'.')
-        .octet(digit(milliseconds / 100))
-        .octet(digit(milliseconds / 10))
-        .octet(digit(milliseconds))
-        .text(b"; kbit/s: ")
-        .number(tenths / 10)
-        .octet(b'.')
-        .octet(digit(tenths))
-        .octet(b'\n')
-}
-
-// The last decimal digit
-fn digit(n: u64) -> u8 {
-    b'0' + (n % 10) as u8
-}
-
-// Bits a millisecond, in tenths, half a tenth upwards
-fn rate(octets: u64, milliseconds: u64) -> u64 {
-    if milliseconds == 0 {
+// Bits a millisecond, in tenths, half a tenth upwards; 0 where there is no frame, and beyond what any stream comes to
+fn rate(octets: u64, milliseconds: u64) -> u64
+    ensures none { milliseconds ≡ 0 → result ≡ 0 }
+    ensures beyond { 2 ^ 48 < max octets milliseconds → result ≡ 0 }
+    ensures rounded { 0 < milliseconds → max octets milliseconds ≤ 2 ^ 48 → result ≡ (octets * 160 + milliseconds) / (milliseconds * 2) }
+{
+    if MOST < octets.max(milliseconds) {
         return 0;
     }
-    if MOST < milliseconds {
-        return 0;
-    }
-    if MOST < octets {
-        return 0;
-    }
-    (octets * 160 + milliseconds) / (milliseconds * 2)
+    (octets * 160 + milliseconds)
+        .checked_div(milliseconds * 2)
+        .unwrap_or(0)
 }

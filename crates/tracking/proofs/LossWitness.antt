@@ -5,7 +5,6 @@ use mathlib.Core.List.{List, [], ◌∷◌}
 use mathlib.Core.Path.{◌≡◌, refl, ◌∙◌}
 use native.Mathlib.Omega.{arith}
 use borrow.Author.Tests.{eq-eqb}
-use Rattle.words.specs.Every.{every}
 use Rattle.words.proofs.Within.{within_says}
 use Rattle.lists.specs.Run.{total}
 use Rattle.state.specs.declared.State.{State}
@@ -33,7 +32,7 @@ abbrev call : Sending
 call = speech.sent
 
 fits : Fit 2 speech
-unfolding header_length every
+unfolding header_length
 fits = fit _ _ _ _ (omega arith) refl _ refl refl refl refl
 
 -- a state of core 2 in range, from which the call is made

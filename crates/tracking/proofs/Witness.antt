@@ -9,7 +9,6 @@ use native.Mathlib.Omega.{arith}
 use lib.IntN.{pos, neg_ℤ}
 use lib.ListN.{length, replicate, length-replicate}
 use Rattle.words.specs.Within.{Within}
-use Rattle.words.specs.Every.{every}
 use Rattle.words.proofs.Within.{within_says}
 use Rattle.linear.specs.Linear.{is_level}
 use Rattle.quantizer.proofs.Pairs.{pair_says}
@@ -68,7 +67,7 @@ fit from to e n known long samples eight taken from_is to_is =
     }
 
 pub all_fit : AllFit 2 stream
-unfolding header_length every is_level
+unfolding header_length is_level
 all_fit =
     (fit _ _ _ _ (omega arith) refl _ refl refl refl refl, (fit _ _ _ _ (omega arith) refl _ refl refl refl refl, (fit _ _ _ _ (omega arith) refl _ refl refl refl refl, tt)))
 

@@ -1,25 +1,41 @@
 // The codewords that a decoder takes with no encoder before it: the I-inputs, and the held codeword.
+ghost use Rattle.std.specs.Prelude.{◌-◌, ◌^◌, ◌<◌, IfOk, All};
 ghost use Rattle.quantizer.specs.Codeword.{Width, Codeword};
 
-use crate::magnitudes::magnitude_at;
+use crate::magnitudes::{at_width, magnitudes};
+use crate::signs::signs;
 use quantizer::codeword::half;
+use std::alloc::{AllocError, Global};
 
-// The I-input's codeword at a place that has the sign
-pub fn input_at(width: u8, place: usize, negative: bool) -> u8
+pub fn i_input(alloc: Global, width: u8) -> Result<Vec<u8>, AllocError>
     requires { Width width }
+    ensures { IfOk result (λ v. All (Codeword width) v.items) }
+{
+    let magnitudes = magnitudes(alloc)?;
+    let signs = signs(alloc)?;
+    let mut codewords = Vec::new(alloc);
+    for (magnitude, negative) in magnitudes.iter().zip(&signs) {
+        codewords.push(signed(width, at_width(width, *magnitude), *negative))?;
+    }
+    Ok(codewords)
+}
+
+fn signed(width: u8, magnitude: u8, negative: bool) -> u8
+    requires width { Width width }
+    requires magnitude { magnitude < 2 ^ (width - 1) }
     ensures { Codeword width result }
 {
-    let m = magnitude_at(width, place);
     if negative {
-        return 2 * half(width) - 1 - m;
+        2 * half(width) - 1 - magnitude
+    } else {
+        magnitude
     }
-    m
 }
 
 // The greatest magnitude, positive
-pub fn held(width: u8) -> u8
+pub fn held(alloc: Global, width: u8) -> Result<Vec<u8>, AllocError>
     requires { Width width }
-    ensures { Codeword width result }
+    ensures { IfOk result (λ v. All (Codeword width) v.items) }
 {
-    half(width) - 1
+    vec![in alloc; half(width) - 1; 2000]
 }

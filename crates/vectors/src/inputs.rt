@@ -1,137 +1,94 @@
-// The eight files of PCM octets, in one buffer, one after the other: of each input the file of mu-law and then that of
-// A-law. They are looked for in the folder that the program is run in.
-ghost use Rattle.std.specs.Prelude.{◌≤◌, ◌<◌, length};
-ghost use Rattle.vectors.specs.Inputs.{input_octets};
-
+// The PCM octets of the four inputs under both laws, from eight files in the folder that the program is run in.
+use crate::laws::Law;
+use std::alloc::AllocError;
+use std::fmt;
+use std::fmt::{Display, Formatter};
 use std::fs::File;
 use std::io::{Error, Read};
-use text::STDERR;
-use text::failure::why;
+use text::failure::Why;
 
-const FILES: usize = 8;
-
-// The number of each input's file of mu-law; the next is that of A-law
-pub const NORMAL: usize = 0;
-
-pub const OVERLOAD: usize = 2;
-
-pub const HOMING: usize = 4;
-
-pub const JUMP: usize = 6;
-
-// Where each file begins in the buffer, and where the last one ends
-const STARTS: [usize; 9] = [0, 16384, 32768, 34816, 36864, 40360, 43856, 47952, 52048];
-
-const NAMES: [&str; 8] = [
-    "nrm.m", "nrm.a", "ovr.m", "ovr.a", "init.m", "init.a", "jump.m", "jump.a",
-];
-
-#[derive(Clone, Copy)]
-pub struct Part {
-    pub from: usize,
-    pub to: usize,
+#[derive(Drop)]
+pub struct Inputs {
+    pub normal: Input,
+    pub overload: Input,
+    pub homing: Input,
+    pub jump: Input,
 }
 
-// Reads them all, or says which could not be read
-pub fn load(rt: &HostRuntime, pcm: &mut [u8]) -> bool
-    requires { input_octets ≤ length pcm.old }
-{
-    load_all(rt, pcm, &NAMES)
+// The same levels under each law
+#[derive(Drop)]
+pub struct Input {
+    mu: Vec<u8>,
+    a: Vec<u8>,
 }
 
-fn load_all(rt: &HostRuntime, pcm: &mut [u8], names: &[&str]) -> bool
-    requires room { input_octets ≤ length pcm.old }
-    requires named { 8 ≤ length names.now }
-{
-    let mut file = 0;
-    while file < FILES {
-        if !load_file(rt, pcm, names, file) {
-            return false;
-        }
-        file += 1;
-    }
-    true
+// Why there are no inputs
+#[derive(Drop)]
+pub enum Unread {
+    Unopened(&'static str, Error),
+    WrongLength(&'static str),
+    OutOfMemory(AllocError),
 }
 
-fn load_file(rt: &HostRuntime, pcm: &mut [u8], names: &[&str], file: usize) -> bool
-    requires room { input_octets ≤ length pcm.old }
-    requires named { 8 ≤ length names.now }
-    requires counted { file < 8 }
-{
-    let part = part_of(file);
-    let from = part.from;
-    let to = part.to;
-    read_file(rt, names[file], &mut pcm[from..to])
-}
-
-fn part_of(file: usize) -> Part
-    requires { file < 8 }
-    ensures { (result.from ≤ result.to) × (result.to ≤ input_octets) }
-{
-    Part {
-        from: STARTS[file],
-        to: STARTS[file + 1],
+impl From<AllocError> for Unread {
+    fn from(error: AllocError) -> Unread {
+        Unread::OutOfMemory(error)
     }
 }
 
-fn read_file(rt: &HostRuntime, name: &str, octets: &mut [u8]) -> bool {
-    match File::open(rt, name) {
-        Ok(mut file) => is_filled(&mut file, name, octets),
-        Err(error) => {
-            fail(name, error);
-            false
+impl Display for Unread {
+    fn fmt<W: fmt::Write>(&self, f: &mut Formatter<W>) -> fmt::Result {
+        match self {
+            Unread::Unopened(name, error) => write!(f, "{name}: {}", Why(*error)),
+            Unread::WrongLength(name) => write!(f, "{name}: not as long as docs/SEQUENCES.md says"),
+            Unread::OutOfMemory(error) => write!(f, "{error}"),
         }
     }
 }
 
-// Whether the file has just as many octets as there is room for
-fn is_filled(file: &mut File, name: &str, octets: &mut [u8]) -> bool {
-    let got = read_full(file, octets);
-    let more = is_more(file);
-    if (got == octets.len()) & !more {
-        return true;
-    }
-    io::write_all(STDERR, name.as_bytes());
-    io::write_all(STDERR, b": not as long as docs/SEQUENCES.md says\n");
-    false
-}
-
-fn is_more(file: &mut File) -> bool {
-    let mut one = [0u8; 1];
-    0 < read_full(file, &mut one)
-}
-
-// Until there is no more room, or the file ends or cannot be read
-fn read_full(file: &mut File, octets: &mut [u8]) -> usize
-    ensures { result ≤ length octets.new }
-{
-    let mut done = 0;
-    while done < octets.len() {
-        let n = match file.read(&mut octets[done..]) {
-            Ok(n) => n,
-            Err(_) => 0,
-        };
-        if n == 0 {
-            return done;
+impl Input {
+    pub fn under(&self, law: Law) -> &[u8] {
+        match law {
+            Law::Mu => &self.mu,
+            Law::A => &self.a,
         }
-        done += n;
     }
-    done
 }
 
-// What failed, and why
-fn fail(what: &str, error: Error) {
-    io::write_all(STDERR, what.as_bytes());
-    why(error).write(STDERR);
+impl Inputs {
+    pub fn read(rt: &HostRuntime) -> Result<Inputs, Unread> {
+        Ok(Inputs {
+            normal: both_laws(rt, "nrm.m", "nrm.a", 16384)?,
+            overload: both_laws(rt, "ovr.m", "ovr.a", 2048)?,
+            homing: both_laws(rt, "init.m", "init.a", 3496)?,
+            jump: both_laws(rt, "jump.m", "jump.a", 4096)?,
+        })
+    }
 }
 
-// Of an input, by the number of its file of mu-law
-pub fn octets_of(pcm: &[u8], input: usize, law: u8) -> &[u8]
-    requires inputs { input_octets ≤ length pcm.now }
-    requires place { (input ≤ 6) × (law ≤ 1) }
-{
-    let part = part_of(input + law as usize);
-    let from = part.from;
-    let to = part.to;
-    &pcm[from..to]
+fn both_laws(
+    rt: &HostRuntime,
+    mu: &'static str,
+    a: &'static str,
+    length: usize,
+) -> Result<Input, Unread> {
+    Ok(Input {
+        mu: octets(rt, mu, length)?,
+        a: octets(rt, a, length)?,
+    })
+}
+
+fn octets(rt: &HostRuntime, name: &'static str, length: usize) -> Result<Vec<u8>, Unread> {
+    let mut octets = vec![in rt.alloc(); 0; length]?;
+    let mut file = File::open(rt, name).map_err(|error| Unread::Unopened(name, error))?;
+    if is_just(&mut file, &mut octets) {
+        Ok(octets)
+    } else {
+        Err(Unread::WrongLength(name))
+    }
+}
+
+// Whether the file has just as many octets as there is room for; one that cannot be read to its end has fewer.
+fn is_just(file: &mut File, octets: &mut [u8]) -> bool {
+    file.read_exact(octets).is_ok() && !matches!(file.read(&mut [0]), Ok(1..))
 }

@@ -1,71 +1,61 @@
-// The magnitudes of the I-inputs at width 4, the 27 runs of Table 9 of the ITU's description, and what they become at the other widths.
-ghost use Rattle.std.specs.Prelude.{◌-◌, ◌^◌, ◌≤◌, ◌<◌};
+// The magnitudes of the I-inputs at width 4, Table 9 of the ITU's description, and what they become at the other widths.
+ghost use Rattle.std.specs.Prelude.{◌-◌, ◌^◌, ◌<◌, IfOk, All};
 ghost use Rattle.quantizer.specs.Codeword.{Width};
 
-const ROWS: usize = 27;
+use std::alloc::{AllocError, Global};
 
-// A run a row, from its first place on sixteen times one magnitude and sixteen times the other in turn: the two
-// magnitudes as two digits, and the run's length
-const RUNS: [u32; 27] = [
-    00_1024, 01_0512, 11_0512, 12_0512, 22_0512, 23_0256, 33_1024, 34_0512, 44_0512, 45_0512,
-    55_0512, 56_0256, 66_1024, 67_0256, 77_1024, 66_1024, 55_1024, 54_0512, 43_0512, 33_0512,
-    22_1024, 21_0512, 10_0512, 00_1024, 57_0256, 27_0256, 16_0256,
+// In each row sixteen times one magnitude and sixteen times the other in turn, and the row's length
+const ROWS: [(u8, u8, usize); 27] = [
+    (0, 0, 1024),
+    (0, 1, 512),
+    (1, 1, 512),
+    (1, 2, 512),
+    (2, 2, 512),
+    (2, 3, 256),
+    (3, 3, 1024),
+    (3, 4, 512),
+    (4, 4, 512),
+    (4, 5, 512),
+    (5, 5, 512),
+    (5, 6, 256),
+    (6, 6, 1024),
+    (6, 7, 256),
+    (7, 7, 1024),
+    (6, 6, 1024),
+    (5, 5, 1024),
+    (5, 4, 512),
+    (4, 3, 512),
+    (3, 3, 512),
+    (2, 2, 1024),
+    (2, 1, 512),
+    (1, 0, 512),
+    (0, 0, 1024),
+    (5, 7, 256),
+    (2, 7, 256),
+    (1, 6, 256),
 ];
 
-// A place in a run, counted from the run's first
-#[derive(Clone, Copy)]
-pub struct Spot {
-    pub row: usize,
-    pub at: usize,
+pub fn magnitudes(alloc: Global) -> Result<Vec<u8>, AllocError>
+    ensures { IfOk result (λ v. All (λ m. m < 8) v.items) }
+{
+    let mut magnitudes = Vec::new(alloc);
+    for (one, other, length) in &ROWS {
+        for place in 0..*length {
+            magnitudes.push(if place / 16 % 2 == 0 { *one } else { *other })?;
+        }
+    }
+    Ok(magnitudes)
 }
 
-pub fn magnitude_at(width: u8, place: usize) -> u8
-    requires { Width width }
+pub fn at_width(width: u8, magnitude: u8) -> u8
+    requires width { Width width }
+    requires magnitude { magnitude < 8 }
     ensures { result < 2 ^ (width - 1) }
 {
-    let spot = spot_of(place);
-    let m = magnitude_in(spot.row, spot.at);
-    if width == 5 {
-        return 2 * m;
+    match width {
+        5 => 2 * magnitude,
+        4 => magnitude,
+        3 => magnitude / 2,
+        _ => magnitude / 4,
     }
-    if width == 4 {
-        return m;
-    }
-    if width == 3 {
-        return m / 2;
-    }
-    m / 4
-}
-
-fn magnitude_in(row: usize, at: usize) -> u8
-    requires { row < 27 }
-    ensures { result ≤ 7 }
-{
-    let run = RUNS[row];
-    if at / 16 % 2 == 0 {
-        return (run / 100000 % 10) as u8;
-    }
-    (run / 10000 % 10) as u8
-}
-
-fn spot_of(place: usize) -> Spot
-    ensures { result.row < 27 }
-{
-    let mut row = 0;
-    let mut at = place;
-    while row < ROWS - 1 {
-        let length = length_of(row);
-        if at < length {
-            return Spot { row, at };
-        }
-        at -= length;
-        row += 1;
-    }
-    Spot { row, at }
-}
-
-fn length_of(row: usize) -> usize
-    requires { row < 27 }
-{
-    (RUNS[row] % 10000) as usize
 }

@@ -1,92 +1,84 @@
 // The test sequences of docs/SEQUENCES.md: with no argument a line of checksums for each of them, with the name of one
 // as the argument a line for each of its samples. The files of PCM octets are looked for in the folder it is run in.
+// What cannot be written is left out. Where there is no memory, that is told and the status is 1; else it is 0.
 #![tactic(auto)]
 
 mod codewords;
 mod drive;
+mod ends;
 mod inputs;
+mod laws;
 mod lines;
 mod magnitudes;
 mod names;
 mod runs;
 mod signs;
 
-ghost use Rattle.std.specs.Prelude.{◌≤◌, length};
-ghost use Rattle.vectors.specs.Inputs.{input_octets};
-
 use drive::perform;
-use lines::write_run;
-use names::{is_named, say_unknown};
-use runs::{RUNS, run_at};
+use inputs::{Inputs, Unread};
+use names::{HELP, is_named};
+use runs::{Run, all_runs};
+use std::alloc::AllocError;
 use std::env::{Env, FillError};
-use text::STDERR;
+use std::io::Write;
 
-fn main(rt: HostRuntime) {
-    let mut pcm = io::large_buffer();
-    if inputs::load(&rt, &mut pcm) {
-        run_on(&rt, &pcm);
-    }
-}
+// No sequence's name is longer; a longer argument is not told.
+const ROOM: usize = 4096;
 
-fn run_on(rt: &HostRuntime, pcm: &[u8])
-    requires { input_octets ≤ length pcm.now }
-{
-    if !has_argument(rt, 1) {
-        write_all_runs(pcm);
-        return;
-    }
-    if has_argument(rt, 2) {
-        io::write_all(STDERR, b"the name of one sequence, or none\n");
-        return;
-    }
-    let mut name = io::buffer();
-    // one that is too long is no sequence's, and is not told
-    let n = match rt.arg(1, &mut name) {
-        Ok(n) => n,
-        Err(_) => 0,
-    };
-    dump(pcm, &name[..n]);
-}
-
-// Also one that is longer than the buffer
-fn has_argument(rt: &HostRuntime, i: usize) -> bool {
-    let mut word = io::buffer();
-    match rt.arg(i, &mut word) {
-        Err(FillError::NotPresent) => false,
-        _ => true,
-    }
-}
-
-fn write_all_runs(pcm: &[u8])
-    requires { input_octets ≤ length pcm.now }
-{
-    let mut k = 0;
-    while k < RUNS {
-        let run = run_at(k);
-        write_run(run, perform(run, pcm, false));
-        k += 1;
-    }
-}
-
-fn dump(pcm: &[u8], name: &[u8])
-    requires { input_octets ≤ length pcm.now }
-{
-    let k = place_of(name);
-    if k < RUNS {
-        perform(run_at(k), pcm, true);
-        return;
-    }
-    say_unknown(name);
-}
-
-// RUNS where there is none
-fn place_of(name: &[u8]) -> usize {
-    let mut k = 0;
-    while k < RUNS {
-        if is_named(run_at(k), name) {
-            return k;
+fn main(rt: HostRuntime) -> Result<(), AllocError> {
+    match Inputs::read(&rt) {
+        Ok(inputs) => run_on(&rt, &inputs),
+        Err(Unread::OutOfMemory(error)) => Err(error),
+        Err(unread) => {
+            let _ = eprintln!(rt; "{unread}");
+            Ok(())
         }
-        k += 1;
     }
-    k
+}
+
+fn run_on(rt: &HostRuntime, inputs: &Inputs) -> Result<(), AllocError> {
+    let runs = all_runs(rt.alloc())?;
+    let mut name = [0; ROOM];
+    let mut second = [0; ROOM];
+    match (argument(rt, 1, &mut name), argument(rt, 2, &mut second)) {
+        (None, _) => write_runs(rt, &runs, inputs),
+        (Some(name), None) => dump(rt, &runs, inputs, name),
+        _ => {
+            let _ = eprintln!(rt; "the name of one sequence, or none");
+            Ok(())
+        }
+    }
+}
+
+fn argument<'a>(rt: &HostRuntime, i: usize, room: &'a mut [u8]) -> Option<&'a [u8]> {
+    match rt.arg(i, room) {
+        Ok(n) => Some(&room[..n]),
+        Err(FillError::TooLong) => Some(&[]),
+        Err(FillError::NotPresent) => None,
+    }
+}
+
+fn write_runs(rt: &HostRuntime, runs: &[Run], inputs: &Inputs) -> Result<(), AllocError> {
+    for run in runs {
+        let performance = perform(rt.alloc(), *run, inputs)?;
+        let _ = println!(rt; "{run} {performance}");
+    }
+    Ok(())
+}
+
+fn dump(rt: &HostRuntime, runs: &[Run], inputs: &Inputs, name: &[u8]) -> Result<(), AllocError> {
+    match runs.iter().find(|run| is_named(run, name)) {
+        Some(run) => {
+            let performance = perform(rt.alloc(), *run, inputs)?;
+            for (index, sample) in performance.samples.iter().enumerate() {
+                let _ = println!(rt; "{index} {sample}");
+            }
+        }
+        None => {
+            let _ = eprint!(rt; "no sequence is named ");
+            let _ = rt.stderr().write_all(name);
+            let _ = eprintln!(rt; ": {HELP}");
+        }
+    }
+    Ok(())
 }

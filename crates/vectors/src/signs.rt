@@ -1,60 +1,40 @@
-// The signs of the I-inputs (docs/SEQUENCES.md): eight subsequences of 2,048 places, the same at every width. The last
-// two come from shift registers, which are 1 at the subsequence's first place.
+// The signs of the I-inputs (docs/SEQUENCES.md): eight subsequences, the same at every width. True is negative.
+use std::alloc::{AllocError, Global};
 
+// The length of a subsequence
+const PART: usize = 2048;
+
+pub fn signs(alloc: Global) -> Result<Vec<bool>, AllocError> {
+    let mut signs = Vec::new(alloc);
+    signs.extend((0..PART).map(|_| false))?;
+    signs.extend((0..PART).map(|_| true))?;
+    signs.extend((0..PART).map(|n| n % 2 == 1))?;
+    signs.extend((0..PART).map(|n| n / 2 % 2 == 1))?;
+    signs.extend((0..PART).map(|n| n / 16 % 2 == 1))?;
+    signs.extend((0..PART).map(|n| n % 3 == 0))?;
+    signs.extend(Register::<64, 32>::new().take(PART))?;
+    signs.extend(Register::<1024, 256>::new().take(PART))?;
+    Ok(signs)
+}
+
+// A shift register. A sign is where its highest bit and the tapped one differ, and comes in at its low end.
 #[derive(Clone, Copy)]
-pub struct Sign {
-    pub negative: bool,
-    // for the next place
-    pub register: u16,
+struct Register<const HIGHEST: u16, const TAP: u16> {
+    bits: u16,
 }
 
-pub fn sign_at(place: usize, register: u16) -> Sign {
-    let part = place / 2048;
-    let n = place % 2048;
-    let r = started(n, register);
-    if part == 6 {
-        return seventh(r);
-    }
-    if part == 7 {
-        return eighth(r);
-    }
-    Sign {
-        negative: steady(part, n),
-        register: r,
+impl<const HIGHEST: u16, const TAP: u16> Register<HIGHEST, TAP> {
+    fn new() -> Self {
+        Register { bits: 1 }
     }
 }
 
-fn started(n: usize, register: u16) -> u16 {
-    if n == 0 {
-        return 1;
-    }
-    register
-}
+impl<const HIGHEST: u16, const TAP: u16> Iterator for Register<HIGHEST, TAP> {
+    type Item = bool;
 
-// Subsequences 1 to 6
-fn steady(part: usize, n: usize) -> bool {
-    match part {
-        0 => false,
-        1 => true,
-        2 => n % 2 == 1,
-        3 => n / 2 % 2 == 1,
-        4 => n / 16 % 2 == 1,
-        _ => n % 3 == 0,
-    }
-}
-
-fn seventh(r: u16) -> Sign {
-    let s = (r / 64 + r / 32) % 2;
-    Sign {
-        negative: s == 1,
-        register: ((2 * (r as u32) + s as u32) % 128) as u16,
-    }
-}
-
-fn eighth(r: u16) -> Sign {
-    let s = (r / 1024 + r / 256) % 2;
-    Sign {
-        negative: s == 1,
-        register: ((2 * (r as u32) + s as u32) % 2048) as u16,
+    fn next(&mut self) -> Option<bool> {
+        let sign = (self.bits & HIGHEST != 0) != (self.bits & TAP != 0);
+        self.bits = (self.bits & !HIGHEST) << 1 | u16::from(sign);
+        Some(sign)
     }
 }

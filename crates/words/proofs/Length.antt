@@ -60,6 +60,10 @@ length_spans m h = rows_span 16 m h
 pub length_le : (k m : ℕ) → m < 65536 → m < 2 ^ k → bit_length m ≤ k
 length_le k m h less = short k m (bit_length m) less (length_spans m h).low (dec_le (bit_length m) k)
 
+-- a word has at most 16
+pub length_word : (m : ℕ) → m < 65536 → bit_length m ≤ 16
+length_word m word = length_le 16 m word word
+
 -- 2 m + 1 has one bit more than m: counted in a word of k bits, its leading zeros, that bit and the bits of m make k
 pub length_counted : (k m : ℕ) → m < 65536 → 2 * m + 1 < 2 ^ k → count_leading_zeros k (2 * m + 1) + suc (bit_length m) ≡ k
 length_counted k m word fits =

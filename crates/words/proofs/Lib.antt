@@ -4,4 +4,5 @@ pub mod Tests
 pub mod Rows
 pub mod First
 pub mod Within
+pub mod Shared
 pub mod Masks

@@ -1,5 +1,6 @@
 -- Every row of a table of tests holds exactly where their join does, in whichever order they are joined.
-use Rattle.std.proofs.Common.{◌≡◌, Bool, true, false, ◌&&◌, T, List, [], ◌∷◌, refl}
+use Rattle.std.proofs.Common.{◌≡◌, Bool, true, false, ◌&&◌, T, List, [], ◌∷◌, refl, sym}
+use Rattle.std.proofs.Math.Bool.{and-true, and-false}
 use Rattle.words.specs.Every.{every}
 use Rattle.words.proofs.Tests.{and_left, and_right, is_true}
 
@@ -30,14 +31,9 @@ unfoldable pub joined : Bool → List Bool → Bool
 joined t [] = t
 joined t (u ∷ us) = joined (t && u) us
 
-and_true : (t : Bool) → t ≡ t && true
-and_true true = refl
-and_true false = refl
-
 -- a row is left out where its last test fails, whatever the tests before it
 pub and_false : (t : Bool) → t && false ≡ false
-and_false true = refl
-and_false false = refl
+and_false t = and-false t
 
 joined_false : (ts : List Bool) → joined false ts ≡ false
 unfolding joined
@@ -46,6 +42,6 @@ joined_false (t ∷ ts) = joined_false ts
 
 pub joined_every : (t : Bool) (ts : List Bool) → joined t ts ≡ every (t ∷ ts)
 unfolding joined every
-joined_every t [] = and_true t
+joined_every t [] = sym (and-true t)
 joined_every true (u ∷ us) = joined_every u us
 joined_every false (u ∷ us) = joined_false us

@@ -5,8 +5,9 @@ ghost use Rattle.words.specs.Length.{bit_length};
 
 // Counted is 2 m + 1. It has one bit more than m, and is never 0: for 0 x86-64's `bsr` has no answer,
 // and the compiler would have to add one.
+#[tactic(auto, using(crate::proofs::Length::length_counted))]
 pub fn bit_length(m: u16) -> u16
     ensures { result ≡ bit_length m }
 {
-    (31 - u32::leading_zeros(2 * (m as u32) + 1)) as u16
+    (31 - (2 * u32::from(m) + 1).leading_zeros()) as u16
 }

@@ -1,0 +1,7 @@
+-- What is answered for the samples' levels is answered for the samples.
+use Rattle.sample.specs.End.{pcm}
+use Rattle.levels.proofs.Answers.{encodes_of}
+use Rattle.encode.proofs.encode.Goals as goal
+
+pub returns : goal.returns
+returns c = encodes_of (pcm c.args.law) c.args.s c.args.edition c.args.width c.args.samples.now c.args.out.now c.encode_samples.ensures

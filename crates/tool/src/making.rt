@@ -1,0 +1,106 @@
+// What a command does with each piece of its input, and what it makes of one.
+use crate::decoding::decoded;
+use crate::dropping::{dropped, width_of};
+use crate::encoding::encoded;
+use crate::inspecting::inspected;
+use crate::list::read_list;
+use crate::stop::{Place, Stop};
+use arrayvec::ArrayVec;
+use command_line::Command;
+use command_line::coding::Coding;
+use command_line::cutting::Widths;
+use command_line::law::{Law, Speech};
+use frame::header::MOST_SAMPLES;
+use replies::Refusal;
+use reset::reset;
+use state::State;
+use state::answer::Answer;
+
+// Octets of the longest piece: linear samples have two each, and a frame or a line is shorter.
+pub const ROOM: usize = 2 * MOST_SAMPLES;
+
+// The command, with the widths that it asks for; a list is gone through over and over.
+#[derive(Drop)]
+pub enum Work {
+    Encode(Coding),
+    Drop { most: bool, widths: Vec<u8> },
+    Decode(Speech),
+    Inspect,
+}
+
+// What is to be written, and the state that the next piece meets
+#[derive(Drop)]
+pub struct Made {
+    pub octets: ArrayVec<u8, ROOM>,
+    pub state: State,
+}
+
+impl Made {
+    // What a call has put into the buffer, as many octets as it answers
+    pub fn of(mut octets: ArrayVec<u8, ROOM>, answer: Answer<usize>) -> Result<Made, Refusal> {
+        octets.truncate(answer.done?);
+        let state = answer.state;
+        Ok(Made { octets, state })
+    }
+}
+
+impl Work {
+    pub fn of(rt: &HostRuntime, command: Command) -> Result<Work, Stop> {
+        match command {
+            Command::Encode(coding) => Ok(Work::Encode(coding)),
+            Command::Decode(speech) => Ok(Work::Decode(speech)),
+            Command::Inspect => Ok(Work::Inspect),
+            Command::Drop(cut) => {
+                let widths = match cut.widths {
+                    Widths::One(width) => vec![in rt.alloc(); width]?,
+                    Widths::Listed(place) => read_list(rt, place)?,
+                };
+                Ok(Work::Drop {
+                    most: cut.most,
+                    widths,
+                })
+            }
+        }
+    }
+
+    // The state that the first piece meets. decode takes the first frame's core instead, and drop and inspect have no state.
+    pub fn first_state(&self) -> State {
+        let core = match self {
+            Work::Encode(coding) => coding.pair.core,
+            _ => 2,
+        };
+        let started = reset(core);
+        started.state
+    }
+
+    // What is not read over stays silent, so that the last frame of encode is filled up with it.
+    pub fn silence(&self) -> [u8; ROOM] {
+        match self {
+            Work::Encode(coding) => silence(coding.speech),
+            _ => [0; ROOM],
+        }
+    }
+
+    pub fn make(&self, place: Place, state: State, piece: &[u8]) -> Result<Made, Refusal> {
+        match self {
+            Work::Encode(coding) => encoded(*coding, state, piece),
+            Work::Drop { most, widths } => {
+                dropped(
+                    width_of(*most, widths.as_slice(), place.frame, piece),
+                    state,
+                    piece,
+                )
+            }
+            Work::Decode(speech) => decoded(*speech, place.frame, state, piece),
+            Work::Inspect => inspected(place.frame, state, piece),
+        }
+    }
+}
+
+fn silence(speech: Speech) -> [u8; ROOM] {
+    match speech {
+        Speech::Companded(Law::Mu) => [0xff; ROOM],
+        Speech::Companded(Law::A) => [0xd5; ROOM],
+        Speech::Linear => [0; ROOM],
+    }
+}
