@@ -9,7 +9,7 @@ ghost use Rattle.checksum.specs.Checksum.{added, checksum_of};
 use state::State;
 use state::numbers::numbers;
 
-// One number more
+// One number more. Narrowed by `as`, proved to lose nothing; TryFrom would add a failure that cannot come.
 pub fn add(h: u32, v: u32) -> u32
     ensures { result ≡ added h v }
 {

@@ -54,6 +54,7 @@ pub fn decode_samples<E: End>(
     }
 }
 
+#[tactic(auto, unfolding(crate::specs::Decode::decode_number, words::specs::First::first))]
 pub fn decode_reply(
     known: bool,
     s: State,

@@ -1,4 +1,5 @@
 // The call decode_linear: a decoder with the linear end (specs/Decode.antt of codewords).
+// It stays beside decode, its twin at the other end: users call both by name, and each is one line over the call at any end.
 #![tactic(auto)]
 
 ghost use Rattle.sample.specs.End.{linear};

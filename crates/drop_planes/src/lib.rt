@@ -10,6 +10,7 @@ use frame::header::{Header, due_length, frame_reply, read_header};
 use frame::whole::{narrow, thin_frame};
 use replies::Refusal;
 
+// The width stays a number: anyone may hand in any, and an unfit one is refused with 8.
 #[tactic(auto, using(crate::proofs::Fitness::drop_says), unfolding(crate::specs::Drop::drop_reply, crate::specs::Drop::drop_octets, crate::specs::Drop::drop_out))]
 pub fn drop_planes(frame: &[u8], width: u8, out: &mut [u8]) -> Result<usize, Refusal>
     ensures { Drops frame.now width out.old out.new result }

@@ -7,8 +7,8 @@ use Prim.Native.Nat.{ℕ, ◌+◌, ◌*◌, ◌≤◌, ◌<◌}
 use native.Mathlib.Omega.{arith}
 use lib.ListN.{length, get_or, take, drop, set}
 use lib.Seq.{take_at, drop_at, drop-drop, drop-append-le, length-take-le}
+use Rattle.std.proofs.lemmas.List.{drop-take}
 use Rattle.words.proofs.Pick.{by_pick, pick_le}
-use Rattle.lists.proofs.Parts.{drop_take}
 use Rattle.frame.specs.declared.header.Header.{Header}
 use Rattle.frame.specs.Header.{fewest, is_numbered, header_length, head, header_octets, borne, header_of}
 use Rattle.frame.specs.Planes.{planes, frame_of}
@@ -124,4 +124,4 @@ pub header_renewed : (h : Header) (m : ℕ) (frame e : List ℕ) → header_leng
 header_renewed h m frame e long =
     let n = header_length h.edition in
     let there : n ≤ length (take (n + m) frame) = rw (length-take-le (n + m) frame long) (omega arith) in
-    rw (drop-append-le n (take (n + m) frame) e there, drop_take n m frame) (sym (append_assoc (header_octets h) (take m (drop n frame)) e))
+    rw (drop-append-le n (take (n + m) frame) e there, drop-take n m frame) (sym (append_assoc (header_octets h) (take m (drop n frame)) e))

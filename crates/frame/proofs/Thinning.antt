@@ -8,8 +8,8 @@ use native.Mathlib.Omega.{arith}
 use lib.ListN.{length, get_or, take, drop, length-drop}
 use lib.Pow.{shr-shr}
 use lib.Seq.{take_all, take-take, take-append-add, get_or-take}
+use Rattle.std.proofs.lemmas.List.{drop-take, drop-map}
 use Rattle.words.specs.Notation.{◌>>◌}
-use Rattle.lists.proofs.Parts.{drop_take, drop_map}
 use Rattle.lists.proofs.Tables.{tabulate_same, map_tabulate}
 use Rattle.frame.specs.declared.header.Header.{Header}
 use Rattle.frame.specs.Header.{group, header_of}
@@ -33,11 +33,11 @@ module _ (b d : ℕ) where
   gather_shorter : (n : ℕ) (cws : List ℕ) (there : ℕ) → gather n b (shorter d cws) there ≡ gather n (b + d) cws there
   unfolding gather
   gather_shorter zero cws there = refl
-  gather_shorter (suc n) cws there = rw (drop_map (λ c. c >> d) 1 cws, bit_shorter cws) (gather_shorter n (drop 1 cws) (there * 2 + bit (b + d) (get_or cws 0 0)))
+  gather_shorter (suc n) cws there = rw (drop-map (λ c. c >> d) 1 cws, bit_shorter cws) (gather_shorter n (drop 1 cws) (there * 2 + bit (b + d) (get_or cws 0 0)))
 
   plane_shorter : (g : ℕ) (cws : List ℕ) → plane g b (shorter d cws) ≡ plane g (b + d) cws
   unfolding plane octet_at
-  plane_shorter g cws = tabulate_same g (octet_at b (shorter d cws)) (octet_at (b + d) cws) (λ j h. rw (drop_map (λ c. c >> d) (group * j) cws) (gather_shorter group (drop (group * j) cws) 0))
+  plane_shorter g cws = tabulate_same g (octet_at b (shorter d cws)) (octet_at (b + d) cws) (λ j h. rw (drop-map (λ c. c >> d) (group * j) cws) (gather_shorter group (drop (group * j) cws) 0))
 
 planes_shorter : (g w d : ℕ) (cws : List ℕ) → planes g w (shorter d cws) ≡ take (w * g) (planes g (w + d) cws)
 unfolding planes
@@ -97,7 +97,7 @@ module _ (g k : ℕ) where
   collect_take within (suc w) octets there =
       let places : suc w * g ≡ g + w * g = suc-mul w g ∙ add_comm (w * g) g in
       let here : k / group < g + w * g = omega arith in
-      rw (places, drop_take g (w * g) octets, get_or-take (g + w * g) octets (k / group) 0 here)
+      rw (places, drop-take g (w * g) octets, get_or-take (g + w * g) octets (k / group) 0 here)
       (collect_take within w (drop g octets) (there * 2 + bit (7 - k % group) (get_or octets (k / group) 0)))
 
   pub codeword_thinned : k < group * g → {w x : ℕ} → w ≤ x → (octets : List ℕ) → codeword_at w g (take (w * g) octets) k ≡ codeword_at x g octets k >> (x - w)

@@ -151,7 +151,8 @@ pub fn header_reply(h: Header) -> Result<(), Refusal>
     Ok(())
 }
 
-// Ok, or the first row that applies to a frame of so many octets with this header
+// Ok, or the first row that applies to a frame of so many octets with this header. Two parameters, here and in the calls that ask it: the rows are
+// promised of any header at any length.
 #[tactic(auto, using(crate::proofs::Sounds::frame_front, replies::proofs::Answers::refuses), unfolding(words::specs::First::first))]
 pub fn frame_reply(h: Header, length: usize) -> Result<(), Refusal>
     ensures { number_of result ≡ first (frame_rows h length) }

@@ -49,12 +49,13 @@ pub fn write_planes(codewords: &[u8], x: u8, out: &mut [u8])
     }
 }
 
-// The codeword of sample k, from x planes of g octets. By index: one octet of each plane is read; to cut the planes into chunks would divide
-// at every sample.
+// The codeword of sample k, from x planes of g octets. By index: one octet of each plane is read, and chunks or a step of g octets, which may be 0,
+// say no plainer which.
 pub fn codeword_at(body: &[u8], x: u8, g: usize, k: usize) -> u8
     requires { (x ≤ 8) × (k / group < g) × (x * g ≤ length body.now) }
     ensures { result ≡ codeword_at x g body.now k }
 {
+    // Narrowed by `as`, proved to lose nothing; TryFrom would add a failure that cannot come.
     let place = (7 - k % GROUP) as u8;
     let mut there = 0;
     for plane in 0..usize::from(x) {

@@ -72,6 +72,7 @@ pub fn compress(sr: u16, law: u8) -> u8
     }
 }
 
+// Here and in compress_a an octet is narrowed by `as`, proved to lose nothing; TryFrom would add a failure that cannot come.
 #[tactic(auto, using(crate::proofs::Decisions::level_mu_top), unfolding(crate::specs::Compress::COMPRESS))]
 fn compress_mu(sr: u16) -> u8
     ensures { result ≡ COMPRESS sr 0 }

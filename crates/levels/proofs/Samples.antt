@@ -8,7 +8,7 @@ use lib.ListN.{length, get_or, take, drop, length-map}
 use lib.Seq.{take_at}
 use Rattle.std.specs.List.{list_all}
 use Rattle.words.proofs.Rows.{both}
-use Rattle.lists.proofs.Parts.{get_or_map}
+use Rattle.std.proofs.lemmas.List.{get_or-map}
 use Rattle.g711.proofs.Extent.{expand_lt}
 use Rattle.linear.proofs.Levels.{level_short}
 use Rattle.sample.specs.End.{End, pcm, linear, Sample, is_taken, level_of}
@@ -21,7 +21,7 @@ module _ (end : End) (samples : List (Sample end)) where
 
   -- d is any sample
   pub level_at : (d : Sample end) (i : ℕ) → i < length samples → get_or (levels_of end samples) i 0 ≡ level_of end (get_or samples i d)
-  level_at d i h = get_or_map (level_of end) samples i d 0 h
+  level_at d i h = get_or-map (level_of end) samples i d 0 h
 
 -- the levels that were put into a buffer are its first ones
 pub levels_first : {levels before after : List ℕ} → LevelsAll levels before after → take (length levels) after ≡ levels

@@ -118,6 +118,7 @@ pub fn due_header(s: State, edition: u8, width: u8, n: usize) -> Header
         edition,
         width,
         core: s.core,
+        // Narrowed by `as`, proved to lose nothing; TryFrom would add a failure that cannot come.
         groups: (n / GROUP) as u8,
         number: borne(edition, s.number),
     }
@@ -128,12 +129,13 @@ fn encode_into<E: End>(end: E, s: State, h: Header, samples: &[E::Sample], out: 
     requires taken { list_all (E.taken end) samples.now ≡ true }
     ensures { EncodesFrame s h (map (E.level_is end) samples.now) out.old out.new result }
 {
+    // Room for the longest frame, and not a Vec: the codec takes no memory.
     let mut levels = [0; MOST_SAMPLES];
     level_all(end, samples, &mut levels);
     encode_levels(s, h, &levels[..samples.len()], out)
 }
 
-// The end's part ends here. Written by index, as in frame's planes.
+// The end's part ends here. Written by index: of a zip with iter_mut a proof knows the length only.
 fn level_all<E: End>(end: E, samples: &[E::Sample], levels: &mut [u16])
     requires room { length samples.now ≤ length levels.old }
     requires taken { list_all (E.taken end) samples.now ≡ true }
@@ -148,13 +150,14 @@ pub fn encode_levels(s: State, h: Header, levels: &[u16], out: &mut [u8]) -> Sta
     requires { Encodable s h (length levels.now) (length out.old) × FourteenBits levels.now }
     ensures { EncodesFrame s h levels.now out.old out.new result }
 {
+    // Room for the longest frame, as above
     let mut codewords = [0; MOST_SAMPLES];
     let memory = encode_all(s.memory, s.core, h.width, levels, &mut codewords);
     write_frame(&codewords[..levels.len()], h, out);
     moved_on(s, memory, number_after(h.edition, s.number))
 }
 
-// The codewords of all levels, one to an octet. Written by index, as in frame's planes.
+// The codewords of all levels, one to an octet. Written by index, as the levels are above.
 fn encode_all(from: Memory, core: u8, width: u8, levels: &[u16], codewords: &mut [u8]) -> Memory
     requires { MemoryInRange from × Pair width core × (length levels.now ≤ length codewords.old) × FourteenBits levels.now }
     ensures { EncodesAll core width from levels.now codewords.old codewords.new result }

@@ -2,6 +2,5 @@ pub mod Runs
 pub mod Filled
 pub mod Front
 pub mod Tables
-pub mod Parts
 pub mod Rest
 pub mod Running

@@ -37,6 +37,7 @@ pub fn log(d: u16) -> Logged
     let exp = bit_length(dqm >> 1);
     let mant = (u32::from(dqm) * 128 >> exp) % 128;
     Logged {
+        // Narrowed by `as`, proved to lose nothing; TryFrom would add a failure that cannot come.
         dl: exp * 128 + (mant as u16),
         ds,
     }

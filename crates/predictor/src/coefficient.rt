@@ -34,6 +34,7 @@ fn limited(t: u16, lower: u16, upper: u16) -> u16
     )
 }
 
+// TRIGA, of another crate and section, is this brace with another constant: each stands as it is printed.
 pub fn trigb(tr: u16, anp: u16) -> u16
     ensures { result ≡ TRIGB tr anp }
 {
@@ -80,7 +81,7 @@ fn fa(pks1: u16, a1: u16) -> u32
     choose(pks1 == 1, fa1, (131072 - fa1) % 131072)
 }
 
-// The gain of 1/128
+// The gain of 1/128. Narrowed by `as`, proved to lose nothing; TryFrom would add a failure that cannot come.
 #[tactic(auto, unfolding(crate::specs::Coefficient::UGA2))]
 fn uga2(uga2b: u32, sigpk: u16) -> u16
     requires { uga2b < 131072 }

@@ -21,6 +21,7 @@ fn float_of(mag: u16) -> Floating
     let mant = choose(mag == 0, 32, u32::from(mag) * 64 >> exp);
     Floating {
         exp,
+        // Narrowed by `as`, proved to lose nothing; TryFrom would add a failure that cannot come.
         mant: mant as u16,
     }
 }
@@ -53,7 +54,7 @@ pub fn floatb(sr: u16) -> u16
     )
 }
 
-// "Convert floating point to magnitude"
+// "Convert floating point to magnitude". Narrowed by `as`, proved to lose nothing; TryFrom would add a failure that cannot come.
 #[tactic(auto, unfolding(crate::specs::Float::WAnMAG))]
 fn product_magnitude(wanexp: u16, wanmant: u16) -> u16
     requires { (wanexp ≤ 31) × (wanmant ≤ 255) }

@@ -2,7 +2,7 @@
 -- Each is a test of every codeword of every width.
 use mathlib.Core.Path.{◌≡◌, sym, ap, ◌∙◌}
 use mathlib.Core.Bool.{Bool}
-use Prim.Native.Nat.{ℕ, ◌+◌, ◌-◌, ◌*◌, ◌^◌, ◌≤◌, ◌<◌}
+use Prim.Native.Nat.{ℕ, ◌+◌, ◌-◌, ◌*◌, ◌%◌, ◌^◌, ◌≤◌, ◌<◌}
 use native.Mathlib.Omega.{arith}
 use lib.Dec.{T, eqb, leb, ltb, eqb→eq, leb→le, ltb→lt}
 use borrow.Author.Tests.{lt-ltb, le-ltb, eq-eqb, ne_eqb, eqb-true, eqb-false}
@@ -14,6 +14,7 @@ use Rattle.quantizer.specs.Sync.{IM}
 use Rattle.quantizer.proofs.Tests.{at_width, codewords, at_codeword}
 
 pub record Halves (w : ℕ) : Type 0 where
+  pub shifted : 1 * 2 ^ (w - 1) % 256 ≡ 2 ^ (w - 1)
   pub low : 2 ≤ 2 ^ (w - 1)
   pub high : 2 ^ (w - 1) ≤ 16
   pub double : 2 ^ w ≡ 2 * 2 ^ (w - 1)
@@ -21,6 +22,7 @@ pub record Halves (w : ℕ) : Type 0 where
 pub halves : {w : ℕ} → Width w → Halves w
 halves h =
     record {
+      shifted = eqb→eq _ _ (at_width (λ w. eqb (1 * 2 ^ (w - 1) % 256) (2 ^ (w - 1))) tt h);
       low = leb→le _ _ (at_width (λ w. leb 2 (2 ^ (w - 1))) tt h);
       high = leb→le _ _ (at_width (λ w. leb (2 ^ (w - 1)) 16) tt h);
       double = eqb→eq _ _ (at_width (λ w. eqb (2 ^ w) (2 * 2 ^ (w - 1))) tt h);

@@ -36,6 +36,7 @@ fn codeword_of(levels: &[u16], dln: u16, ds: u16) -> u8
     if ds == 0 {
         m
     } else {
+        // Narrowed by `as`, proved to lose nothing; TryFrom would add a failure that cannot come.
         (2 * levels.len() + 1) as u8 - m
     }
 }

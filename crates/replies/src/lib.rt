@@ -22,12 +22,12 @@ pub enum Refusal {
     Sample,
 }
 
-impl Refusal {
-    // For whoever prints or sends it
-    pub fn number(self) -> u8
-        ensures { result ≡ refusal_number self }
-    {
-        self as u8
+// Its number, for whoever prints or sends it
+impl From<Refusal> for u8 {
+    ghost from_gives = { λ refusal number. number ≡ refusal_number refusal };
+
+    fn from(refusal: Refusal) -> u8 {
+        refusal as u8
     }
 }
 
@@ -58,7 +58,7 @@ pub fn number_of<T: Drop>(done: &Result<T, Refusal>) -> u8
 {
     match done {
         Ok(_) => 0,
-        Err(refusal) => refusal.number(),
+        Err(refusal) => u8::from(*refusal),
     }
 }
 

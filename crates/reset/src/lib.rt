@@ -7,6 +7,7 @@ use replies::Refusal;
 use state::State;
 use state::answer::Answer;
 
+// The core stays a number: anyone may hand in any, and an unfit one is refused with 1.
 #[tactic(auto, unfolding(crate::specs::Reset::reset_number, crate::specs::Reset::reset_state, words::specs::First::first))]
 pub fn reset(core: u8) -> Answer<usize>
     ensures { Resets core result }

@@ -8,7 +8,9 @@ ghost use Rattle.scale.specs.Scale.{FILTD, FILTE, LIMB, MIX};
 
 use words::choice::choose;
 
-// FILTD and FILTE are not one function: they differ in widths and in the order of their steps, not in a number alone.
+// FILTD and FILTE are not one function: they differ in widths and in the order of their steps, not in a number alone. Nor is FILTD the average of
+// `speed`: its difference has four bits more than Y and wants 32, so that one function would take a third size and a type. Here and in MIX a word
+// is narrowed by `as`, proved to lose nothing; TryFrom would add a failure that cannot come.
 #[tactic(auto, unfolding(crate::specs::Scale::FILTD))]
 pub fn filtd(wi: u16, y: u16) -> u16
     ensures { result ≡ FILTD wi y }

@@ -1,5 +1,5 @@
 // Adaptation speed control (G.727, section 6.2.6): how quickly the scale factor may follow the core
-// codewords. G.726 has the same sub-blocks.
+// codewords. G.726 has the same sub-blocks. That words have their widths stays a clause, as in predictor's sums: these functions are public.
 #![tactic(auto)]
 
 ghost use Rattle.std.specs.Prelude.{◌≡◌, ◌^◌, ◌<◌, ◌≤◌};
@@ -63,6 +63,7 @@ pub fn subtc(dmsp: u16, dmlp: u16, tdp: u16, y: u16) -> u16
     choose((1536 <= y) & (difm < dthr) & (tdp == 0), 0, 1)
 }
 
+// TRIGB, of another crate and section, is this brace with another constant: each stands as it is printed.
 pub fn triga(tr: u16, app: u16) -> u16
     ensures { result ≡ TRIGA tr app }
 {

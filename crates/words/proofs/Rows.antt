@@ -1,6 +1,6 @@
 -- Every row of a table of tests holds exactly where their join does, in whichever order they are joined.
 use Rattle.std.proofs.Common.{◌≡◌, Bool, true, false, ◌&&◌, T, List, [], ◌∷◌, refl, sym}
-use Rattle.std.proofs.Math.Bool.{and-true, and-false}
+use Rattle.std.proofs.Math.Bool.{and-true}
 use Rattle.words.specs.Every.{every}
 use Rattle.words.proofs.Tests.{and_left, and_right, is_true}
 
@@ -30,10 +30,6 @@ every_of (t ∷ ts) rows = rw (rows.0, every_of ts rows.1)
 unfoldable pub joined : Bool → List Bool → Bool
 joined t [] = t
 joined t (u ∷ us) = joined (t && u) us
-
--- a row is left out where its last test fails, whatever the tests before it
-pub and_false : (t : Bool) → t && false ≡ false
-and_false t = and-false t
 
 joined_false : (ts : List Bool) → joined false ts ≡ false
 unfolding joined

@@ -1,8 +1,8 @@
 -- Braces whose rows share a test, which code makes once.
 use Rattle.std.proofs.Common.{◌≡◌, Bool, true, false, not, ◌&&◌, refl}
+use Rattle.std.proofs.Math.Bool.{and-false}
 use Rattle.words.specs.Notation.{pick, ◌when◌∣◌}
 use Rattle.words.proofs.Pick.{by_pick}
-use Rattle.words.proofs.Rows.{and_false}
 
 pick_same : {A : Type 0} (t : Bool) (a : A) → pick t a a ≡ a
 pick_same true a = refl
@@ -23,5 +23,5 @@ shared_not t u false a b c = shared t u true a b c
 
 -- one test the less, where u holds wherever t does not
 pub shared_else : {A : Type 0} (t u s : Bool) (a b c : A) → (t ≡ false → u ≡ true) → pick s (pick t a b) c ≡ (a when t && s ∣ b when u && s ∣ c)
-shared_else true u s a b c h = by_pick (λ x. pick s a c ≡ x) s a (b when u && s ∣ c) (λ e. rw e) (λ e. rw (e, and_false u))
+shared_else true u s a b c h = by_pick (λ x. pick s a c ≡ x) s a (b when u && s ∣ c) (λ e. rw e) (λ e. rw (e, and-false u))
 shared_else false u s a b c h = rw (h refl)

@@ -1,18 +1,8 @@
 -- Row by row; the frame's own rows are passed on.
-use Rattle.std.proofs.Common.{rules, sym}
+use Rattle.std.proofs.Common.{sym}
 use Rattle.std.proofs.lemmas.Result.{err_from_is_err_and}
-use Rattle.words.specs.First.{first}
-use Rattle.codewords.specs.Decode.{decode_number}
 use Rattle.codewords.proofs.Fitness.{frame_refused, frame_passed}
 use Rattle.codewords.proofs.decode_reply.Goals as goal
-
-pub returns-then-not-in_range : goal.returns-then-not-in_range
-unfolding decode_number first
-returns-then-not-in_range c = search rules
-
-pub returns-then-not-known : goal.returns-then-not-known
-unfolding decode_number first
-returns-then-not-known c = search rules
 
 pub returns-in_err-frame_reply : goal.returns-in_err-frame_reply
 returns-in_err-frame_reply c =

@@ -1,6 +1,6 @@
 use native.Mathlib.Omega.{arith}
 use lib.ListN.{length-map}
-use Rattle.lists.proofs.Parts.{get_or_map}
+use Rattle.std.proofs.lemmas.List.{get_or-map}
 use Rattle.lists.proofs.Filled.{filled_none, filled_more, filled_all}
 use Rattle.levels.proofs.Samples.{taken_at}
 use Rattle.levels.proofs.level_all.Goals as goal
@@ -16,7 +16,7 @@ pub loop-i-preserved : goal.loop-i-preserved
 loop-i-preserved g c =
     let sample = c.index-samples-i in
     filled_more _ _ _ 0 c.loop-i.invariant c.loop-i-test.true
-    (rw (c.level.ensures, get_or_map (g.E.End.level_is c.args.end) c.args.samples.now c.loop-i.i sample.result 0 c.loop-i-test.true, ← sample.is))
+    (rw (c.level.ensures, get_or-map (g.E.End.level_is c.args.end) c.args.samples.now c.loop-i.i sample.result 0 c.loop-i-test.true, ← sample.is))
 
 pub returns : goal.returns
 returns g c = record { out = rw (length-map _ _) (filled_all _ _ _ c.loop-i.invariant c.loop-i-test.false) }
