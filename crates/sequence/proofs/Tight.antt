@@ -6,27 +6,19 @@ use Rattle.words.proofs.Pick.{cases}
 use Rattle.sequence.specs.Piece.{Piece, stop, further, Fills}
 use Rattle.sequence.specs.Reading.{is_refused, step_of, next, given_of, given, reading, Reads}
 use Rattle.sequence.specs.declared.reader.Reader.{Reader}
-use Rattle.sequence.specs.declared.reader.ReadAnswer.{ReadAnswer}
+use Rattle.sequence.specs.declared.progress.Progress.{Progress}
 use Rattle.sequence.specs.declared.step.Stepped.{Stepped}
 use Rattle.sequence.proofs.Taking.{reading_refused, reading_full, reading_more}
 
-module _ {S : Type 0} {p : Piece S} {before after after' : List ℕ} {s s' : S} {t t' w w' : ℕ} (a : Fills p before after s t w) (b : Fills p before after' s' t' w') where
-  pub same_state : s ≡ s'
-  same_state = a.state_is ∙ sym b.state_is
-
-  pub same_taken : t ≡ t'
-  same_taken = a.taken_is ∙ sym b.taken_is
-
-  pub same_written : w ≡ w'
-  same_written = a.written_is ∙ sym b.written_is
-
-  pub same_out : after ≡ after'
-  same_out = a.out ∙ sym b.out
+-- two answers that make the same of a piece are equal, and so are the exit buffers
+pub filled_alike : {S : Type 0} {p : Piece S} {before after after' : List ℕ} (a b : Progress S) → Fills p before after a.state a.taken a.written
+    → Fills p before after' b.state b.taken b.written → (a ≡ b) × (after ≡ after')
+filled_alike a b f g =
+    (λ i. record { state = (f.state_is ∙ sym g.state_is) i; taken = (f.taken_is ∙ sym g.taken_is) i; written = (f.written_is ∙ sym g.written_is) i }, f.out ∙ sym g.out)
 
 -- two conforming answers are equal, and so are the exit buffers
-pub read_equal : (r : Reader) (text before after after' : List ℕ) (a b : ReadAnswer) → Reads r text before after a → Reads r text before after' b → (a ≡ b) × (after ≡ after')
-read_equal r text before after after' a b p q =
-    (λ i. record { reader = same_state p q i; taken = same_taken p q i; written = same_written p q i }, same_out p q)
+pub read_equal : (r : Reader) (text before after after' : List ℕ) (a b : Progress Reader) → Reads r text before after a → Reads r text before after' b → (a ≡ b) × (after ≡ after')
+read_equal r text before after after' a b p q = filled_alike a b p q
 
 -- one character gives at most one value
 given_few : (s : Stepped) → length (given_of s) ≤ 1

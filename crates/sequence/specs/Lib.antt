@@ -1,4 +1,5 @@
 pub mod Limits
+pub mod Message
 pub mod Digits
 pub mod Piece
 pub mod Reading

@@ -10,7 +10,7 @@ use Rattle.sequence.specs.Text.{Verdict}
 use Rattle.sequence.specs.declared.reader.Refusal.{Refusal}
 use Rattle.sequence.specs.declared.reader.Refusal.TheVariants.{BadCharacter, LineTooLong, WrongRemainder, MissingRemainder}
 use Rattle.sequence.specs.declared.reader.Reader.{Reader}
-use Rattle.sequence.specs.declared.reader.ReadAnswer.{ReadAnswer}
+use Rattle.sequence.specs.declared.progress.Progress.{Progress}
 use Rattle.sequence.specs.declared.step.Stepped.{Stepped}
 
 abbrev pub is_refused : Verdict → Bool
@@ -100,8 +100,8 @@ reading room r (c ∷ cs) =
 abbrev pub is_through : Piece Reader → List ℕ → Bool
 is_through p text = is_refused p.state.verdict || nat_le (length text) p.taken
 
-abbrev pub Reads : Reader → List ℕ → List ℕ → List ℕ → ReadAnswer → Type 0
-Reads r text before after a = Fills (reading (length before) r text) before after a.reader a.taken a.written
+abbrev pub Reads : Reader → List ℕ → List ℕ → List ℕ → Progress Reader → Type 0
+Reads r text before after a = Fills (reading (length before) r text) before after a.state a.taken a.written
 
 -- a place so many characters before another
 abbrev pub back : ℕ → ℕ → ℕ

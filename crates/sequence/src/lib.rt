@@ -5,5 +5,6 @@
 mod digits;
 pub mod limits;
 pub mod modular;
+pub mod progress;
 pub mod reader;
 mod step;

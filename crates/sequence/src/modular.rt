@@ -1,4 +1,4 @@
-// The sum of values modulo 255, of which the remainder is made.
+// The sum of values modulo 255, of which the remainder is made. An octet is narrowed by `as`, proved to lose nothing; TryFrom would add a failure that cannot come.
 ghost use Rattle.std.specs.Prelude.{◌≡◌, ◌%◌};
 ghost use Rattle.sequence.specs.Limits.{modulus, added};
 

@@ -1,9 +1,13 @@
 // Reading a text in pieces: its values go into a second buffer, and what is wrong with it is told by name and place.
-ghost use Rattle.std.specs.Prelude.{◌≡◌, ◌≤◌};
+ghost use Rattle.std.specs.Prelude.{◌≡◌, ◌≤◌, Some};
+ghost use Rattle.sequence.specs.Message.{message};
 ghost use Rattle.sequence.specs.Reading.{beginning, Reads, back, remainder_verdict, end_of, last_place};
 
 use crate::modular::remainder_of;
+use crate::progress::Progress;
 use crate::step::step;
+use std::fmt;
+use std::fmt::{Display, Formatter};
 
 #[derive(Clone, Copy, PartialEq, Eq, Debug)]
 pub enum Refusal {
@@ -11,6 +15,19 @@ pub enum Refusal {
     LineTooLong,
     WrongRemainder,
     MissingRemainder,
+}
+
+impl Display for Refusal {
+    ghost output = { λ why. Some (message why) };
+
+    fn fmt<W: fmt::Write>(&self, f: &mut Formatter<W>) -> fmt::Result {
+        f.write_str(match self {
+            Refusal::BadCharacter => "bad character",
+            Refusal::LineTooLong => "line too long",
+            Refusal::WrongRemainder => "wrong remainder",
+            Refusal::MissingRemainder => "missing remainder",
+        })
+    }
 }
 
 // What is wrong with a text, and its place, counted in characters from 0
@@ -34,15 +51,6 @@ pub struct Reader {
     pub sum: u8,
 }
 
-// The reader behind the characters that were taken, and how many values were written. Not one generic with the writer's: Reads and Writes
-// speak of a reader and a writer.
-#[derive(Clone, Copy)]
-pub struct ReadAnswer {
-    pub reader: Reader,
-    pub taken: usize,
-    pub written: usize,
-}
-
 // Before the first character
 pub fn begin() -> Reader
     ensures { result ≡ beginning }
@@ -59,9 +67,10 @@ pub fn begin() -> Reader
 }
 
 // Takes characters until they end, until one is refused, or until one hands out a value for which there is no room. The one that
-// it stops at is not taken. By index: of a write through get_mut a proof knows the length only.
+// it stops at is not taken. By index: of a write through get_mut a proof knows the length only. `written` is counted by hand: it is
+// answered, and not each character moves it, as an index that `enumerate` gives would.
 #[tactic(auto, using(crate::proofs::Going::going_refused, crate::proofs::Going::going_full, crate::proofs::Going::going_done))]
-pub fn read(from: Reader, text: &[u8], values: &mut [u8]) -> ReadAnswer
+pub fn read(from: Reader, text: &[u8], values: &mut [u8]) -> Progress<Reader>
     ensures { Reads from text.now values.old values.new result }
 {
     let mut reader = from;
@@ -69,16 +78,16 @@ pub fn read(from: Reader, text: &[u8], values: &mut [u8]) -> ReadAnswer
     for (taken, character) in text.iter().enumerate() {
         let next = step(reader, *character);
         if next.reader.verdict.is_err() {
-            return ReadAnswer {
-                reader: next.reader,
+            return Progress {
+                state: next.reader,
                 taken,
                 written,
             };
         }
         if let Some(value) = next.value {
             if values.len() <= written {
-                return ReadAnswer {
-                    reader,
+                return Progress {
+                    state: reader,
                     taken,
                     written,
                 };
@@ -88,8 +97,8 @@ pub fn read(from: Reader, text: &[u8], values: &mut [u8]) -> ReadAnswer
         }
         reader = next.reader;
     }
-    ReadAnswer {
-        reader,
+    Progress {
+        state: reader,
         taken: text.len(),
         written,
     }

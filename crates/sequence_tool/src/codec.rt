@@ -1,13 +1,14 @@
-// Values through the codec, each in its place: PCM octets become codewords, codewords become PCM octets.
-ghost use Rattle.std.specs.Prelude.{◌≡◌, ◌^◌, ◌≤◌, length};
+// Values through the codec: PCM octets become codewords, codewords become PCM octets.
+ghost use Rattle.std.specs.Prelude.{◌≡◌, ◌^◌, ◌<◌, SomeIff, nat_lt, if◌then◌else◌};
 ghost use Rattle.quantizer.specs.Codeword.{Width};
+ghost use Rattle.sequence_tool.specs.Ends.{encoded, heard};
 ghost use Rattle.state.specs.InRange.{MemoryInRange};
+ghost use Rattle.state.specs.Reset.{reset_memory};
 
-use crate::streaming::Way;
 use command_line::coding::Pair;
-use command_line::law::Law;
 use sample::pcm::{decode_byte, encode_byte};
 use state::memory::{Memory, reset_memory};
+use text::law::Law;
 
 // The law, the pair, and the memories of both ends
 #[derive(Clone, Copy)]
@@ -23,7 +24,12 @@ pub struct Codec {
 impl Codec {
     // From reset
     #[tactic(auto, using(state::proofs::Ranges::reset_memory_in_range))]
-    pub fn new(law: Law, pair: Pair) -> Codec {
+    pub fn new(law: Law, pair: Pair) -> Codec
+        ensures law { result.law ≡ law }
+        ensures pair { result.pair ≡ pair }
+        ensures encoder { result.encoder ≡ reset_memory }
+        ensures decoder { result.decoder ≡ reset_memory }
+    {
         let reset = reset_memory();
         Codec {
             law,
@@ -33,52 +39,33 @@ impl Codec {
         }
     }
 
-    // Answers of how many values something was made. A decoder is homed with what an encoder makes of the values.
-    pub fn make(&mut self, way: Way, values: &mut [u8]) -> usize
-        ensures { result ≤ length values.new }
-    {
-        match way {
-            Way::Read | Way::Write => values.len(),
-            Way::Encode | Way::HomeEncoder => {
-                self.encode(values);
-                values.len()
-            }
-            Way::Decode => self.decode(values),
-            Way::HomeDecoder => {
-                self.encode(values);
-                self.decode(values)
-            }
-        }
-    }
-
+    // The codeword of an octet
     #[tactic(auto, using(quantizer::proofs::Pairs::pair_says, sample::proofs::Tracks::encode_in_range))]
-    fn encode(&mut self, values: &mut [u8]) {
-        let Pair { width, core } = self.pair;
-        let law = u8::from(self.law);
-        for value in values.iter_mut() {
-            let encoded = encode_byte(self.encoder, core, law, width, *value);
-            *value = encoded.codeword;
-            self.encoder = encoded.memory;
-        }
-    }
-
-    // Stops before a value that is no codeword of the width.
-    #[tactic(auto, using(quantizer::proofs::Pairs::pair_says, quantizer::proofs::Pairs::pair_width, sample::proofs::Tracks::play_in_range))]
-    fn decode(&mut self, values: &mut [u8]) -> usize
-        ensures { result ≤ length values.new }
+    pub fn encode(&mut self, octet: u8) -> u8
+        ensures codeword { result ≡ (encoded self.old.law self.old.pair self.old.encoder octet).codeword }
+        ensures encoder { self.new.encoder ≡ (encoded self.old.law self.old.pair self.old.encoder octet).memory }
+        ensures rest { (self.new.law ≡ self.old.law) × (self.new.pair ≡ self.old.pair) × (self.new.decoder ≡ self.old.decoder) }
     {
         let Pair { width, core } = self.pair;
-        let law = u8::from(self.law);
-        let codewords = count_codewords(width);
-        for (i, value) in values.iter_mut().enumerate() {
-            if codewords <= *value {
-                return i;
-            }
-            let played = decode_byte(self.decoder, core, law, width, *value);
-            *value = played.sample;
-            self.decoder = played.memory;
+        let encoded = encode_byte(self.encoder, core, u8::from(self.law), width, octet);
+        self.encoder = encoded.memory;
+        encoded.codeword
+    }
+
+    // The octet of a value, where that is a codeword of the width
+    #[tactic(auto, using(quantizer::proofs::Pairs::pair_says, quantizer::proofs::Pairs::pair_width, sample::proofs::Tracks::play_in_range))]
+    pub fn decode(&mut self, value: u8) -> Option<u8>
+        ensures octet { SomeIff result (value < 2 ^ self.old.pair.width) (heard self.old.law self.old.pair self.old.decoder value).sample }
+        ensures decoder { self.new.decoder ≡ (if nat_lt value (2 ^ self.old.pair.width) then (heard self.old.law self.old.pair self.old.decoder value).memory else self.old.decoder) }
+        ensures rest { (self.new.law ≡ self.old.law) × (self.new.pair ≡ self.old.pair) × (self.new.encoder ≡ self.old.encoder) }
+    {
+        let Pair { width, core } = self.pair;
+        if count_codewords(width) <= value {
+            return None;
         }
-        values.len()
+        let played = decode_byte(self.decoder, core, u8::from(self.law), width, value);
+        self.decoder = played.memory;
+        Some(played.sample)
     }
 }
 

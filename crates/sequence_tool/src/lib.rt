@@ -12,15 +12,11 @@ mod stop;
 mod streaming;
 mod work;
 
-use command_line::pages::task_of;
 use command_line::program::Program;
-use command_line::sequences;
 use command_line::status::Status;
+use command_line::{pages, sequences};
 
 // Does what the program's words ask
 pub fn run(rt: &HostRuntime) -> Status {
-    match task_of(rt, Program::Sequences, sequences::read) {
-        Ok(task) => work::perform(rt, task),
-        Err(status) => status,
-    }
+    pages::run(rt, Program::Sequences, sequences::read, work::perform)
 }

@@ -2,7 +2,7 @@
 use command_line::program::Program;
 use command_line::quoting::say_quoting;
 use command_line::status::Stopping;
-use sequence::reader::{Fault, Refusal};
+use sequence::reader::Fault;
 use streams::failure::Failure;
 
 #[derive(Clone, Copy)]
@@ -25,32 +25,18 @@ impl Stopping for Stop {
         let program = Program::Sequences;
         match self {
             Stop::Stream(failure) => failure.say(rt, program),
-            Stop::Text(word, Fault { why, place }) => {
-                let why = name_of(why);
-                match word {
-                    None => {
-                        let _ = eprintln!(rt; "{program}: {why} at {place}");
-                    }
-                    Some(word) => say_quoting(
-                        rt,
-                        format_args!("{program}: "),
-                        &[word],
-                        format_args!(": {why} at {place}"),
-                    ),
-                }
+            Stop::Text(None, Fault { why, place }) => {
+                let _ = eprintln!(rt; "{program}: {why} at {place}");
             }
+            Stop::Text(Some(word), Fault { why, place }) => say_quoting(
+                rt,
+                format_args!("{program}: "),
+                &[word],
+                format_args!(": {why} at {place}"),
+            ),
             Stop::Codeword(place) => {
                 let _ = eprintln!(rt; "{program}: codeword above its width at {place}");
             }
         }
-    }
-}
-
-fn name_of(why: Refusal) -> &'static str {
-    match why {
-        Refusal::BadCharacter => "bad character",
-        Refusal::LineTooLong => "line too long",
-        Refusal::WrongRemainder => "wrong remainder",
-        Refusal::MissingRemainder => "missing remainder",
     }
 }

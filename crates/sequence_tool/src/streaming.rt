@@ -1,57 +1,48 @@
-// A stream, and what is done with its values.
-use command_line::sequences::Task;
+// A stream, and the forms that values have in it.
+ghost use Rattle.std.specs.Prelude.{◌≡◌};
+ghost use Rattle.streams.specs.declared.files.Stream.TheVariants.{Standard};
+
 use streams::failure::Failure;
 use streams::files;
 use streams::files::opened;
 
+// How values stand in a stream: an octet each, or as the text of a sequence
 #[derive(Clone, Copy, PartialEq, Eq)]
-pub enum Way {
-    Read,
-    Write,
-    Encode,
-    Decode,
-    HomeEncoder,
-    HomeDecoder,
+pub enum Form {
+    Octets,
+    Text,
 }
 
-// The word is HOMING's place, none for standard input.
+// Its values, and what is made of them, which is written nowhere while an end is homed. The word is HOMING's place, none for
+// standard input.
 #[derive(Drop)]
 pub struct Stream {
-    pub way: Way,
     pub source: files::Stream,
     pub word: Option<usize>,
+    pub from: Form,
+    pub to: Option<Form>,
 }
 
 impl Stream {
-    pub fn standard(task: Task) -> Stream {
-        let way = match task {
-            Task::Read => Way::Read,
-            Task::Write => Way::Write,
-            Task::Encode(_) => Way::Encode,
-            Task::Decode(_) => Way::Decode,
-        };
+    pub fn standard(from: Form, to: Form) -> Stream
+        ensures forms { (result.from ≡ from) × (result.to ≡ Some to) }
+        ensures source { (result.source ≡ Standard) × (result.word ≡ None) }
+    {
         Stream {
-            way,
             source: files::Stream::Standard,
             word: None,
+            from,
+            to: Some(to),
         }
     }
 
-    pub fn homing(rt: &HostRuntime, task: Task, word: usize) -> Result<Stream, Failure> {
-        let way = match task {
-            Task::Decode(_) => Way::HomeDecoder,
-            _ => Way::HomeEncoder,
-        };
+    pub fn homing(rt: &HostRuntime, word: usize) -> Result<Stream, Failure> {
         let source = opened(rt, word, "HOMING")?;
         Ok(Stream {
-            way,
             source,
             word: Some(word),
+            from: Form::Text,
+            to: None,
         })
-    }
-
-    // Whether it is a text, or an octet a value
-    pub fn is_text(&self) -> bool {
-        self.way != Way::Write
     }
 }

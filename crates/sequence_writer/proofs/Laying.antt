@@ -2,6 +2,7 @@
 use Rattle.std.proofs.Common.{◌≡◌, ℕ, suc, ◌+◌, ◌-◌, ◌<◌, ◌≤◌, Bool, true, false, not, ◌&&◌, ◌||◌, eqb, ltb, List, [], ◌∷◌, length, get_or, drop, set, refl, sym, ap, ◌∙◌, add-zero, arith, length-drop, get_or-drop, drop-drop, Option, None, Some, is_some, unwrap_or}
 use Rattle.std.proofs.lemmas.Bool.Decides.{nat_tests}
 use Rattle.std.specs.Option.{option_copied}
+use Rattle.std.specs.Slice.{IsItemAt}
 use denote.Ref.{Bor}
 use mir.Val.{bool_byte}
 use Rattle.words.specs.Notation.{pick}
@@ -25,10 +26,10 @@ module _ (room : ℕ) (w : Writer) (vs : List ℕ) where
 spent : (values : List ℕ) (i : ℕ) → not (ltb i (length values)) ≡ eqb (length (drop i values)) 0
 spent values i = rw length-drop (grind (arith, nat_tests))
 
--- a value is there where its reference is
-pub copied_there : (g : Option (Bor ℕ)) → is_some (option_copied g) ≡ is_some g
-copied_there None = refl
-copied_there (Some x) = refl
+-- the look-up of the next value gives it where it is there
+looked_up : (values : List ℕ) (i : ℕ) (g : Option (Bor ℕ)) → IsItemAt values i g → (is_some (option_copied g) ≡ ltb i (length values)) × (unwrap_or (option_copied g) 0 ≡ get_or values i 0)
+looked_up values i None look = (look.0, look.4 (omega arith) 0)
+looked_up values i (Some x) look = (look.0, look.4 (omega arith) 0)
 
 -- a test as the number that the code adds
 pub as_number : (t : Bool) → bool_byte t ≡ pick t 1 0
@@ -60,9 +61,15 @@ module _ (w₀ : Writer) (values before : List ℕ) where
       let whole : n ≡ length out = omega arith in
       rw whole at (underway_stopped (writing (length before) w₀ values) before l.under w (rw none))
 
-  -- v is what stands at the place of the next value
+  -- v is what the look-up of the next value gives
   module _ {w : Writer} {i n : ℕ} {out : List ℕ} (l : Midway writing w₀ values before w i n out) (more : n < length before)
-      (v : Option ℕ) (there : is_some v ≡ ltb i (length values)) (value : unwrap_or v 0 ≡ get_or values i 0) where
+      (g : Option (Bor ℕ)) (look : IsItemAt values i g) (v : Option ℕ) (copied : v ≡ option_copied g) where
+    there : is_some v ≡ ltb i (length values)
+    there = rw copied (looked_up values i g look).0
+
+    value : unwrap_or v 0 ≡ get_or values i 0
+    value = rw copied (looked_up values i g look).1
+
     room : length before - n ≡ suc (length before - (n + 1))
     room = omega arith
 

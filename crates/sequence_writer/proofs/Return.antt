@@ -1,7 +1,7 @@
 -- What the writer's layout says reads back to its values: digit by digit, line by line, row by row.
 use Rattle.std.proofs.Common.{◌≡◌, ℕ, zero, suc, ◌+◌, ◌*◌, ◌/◌, ◌%◌, ◌<◌, ◌≤◌, eqb, List, [], ◌∷◌, ◌++◌, length, take, drop, sym, refl, ap, ◌∙◌, append_assoc, append-nil, arith, length-drop, take-append-drop, length-take, lt-ltb, eq-eqb, ne_eqb, le-leb}
 use borrow.Author.Tests.{lt-leb}
-use Rattle.words.proofs.Rows.{and_false}
+use Rattle.std.proofs.Math.Bool.{and-false}
 use Rattle.sequence.specs.Limits.{line_feed, longest}
 use Rattle.sequence.specs.Text.{Outcome, Values, values_of, sum_of, remainder, characters, onto, lines_of, lines, read_of, Octets}
 use Rattle.sequence_writer.specs.Layout.{capital, line_of, rows, text_of}
@@ -77,7 +77,7 @@ module _ (rest : Outcome) where
 line_read : (p : ℕ) (us line : List ℕ) (more : List (List ℕ)) → 2 ≤ length more → lines p us (line ∷ more) ≡ lines (p + suc (length line)) (us ++ values_of line) more
 unfolding lines
 line_read p us line [] h = absurd (omega arith)
-line_read p us line (behind ∷ more) h = rw (ne_eqb (length behind + length more) 0 (λ e. omega arith), and_false (eqb (length line) 2))
+line_read p us line (behind ∷ more) h = rw (ne_eqb (length behind + length more) 0 (λ e. omega arith), and-false (eqb (length line) 2))
 
 last_line : (us : List ℕ) → lines_of (line_of us) ≡ digits_of us ∷ [] ∷ []
 unfolding lines_of

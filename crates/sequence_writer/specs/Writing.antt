@@ -9,7 +9,7 @@ use Rattle.sequence_writer.specs.declared.Stage.{Stage}
 use Rattle.sequence_writer.specs.declared.Stage.TheVariants.{Values, Closing, Remainder, Done}
 use Rattle.sequence_writer.specs.declared.Writer.{Writer}
 use Rattle.sequence_writer.specs.declared.Written.{Written}
-use Rattle.sequence_writer.specs.declared.WriteAnswer.{WriteAnswer}
+use Rattle.sequence.specs.declared.progress.Progress.{Progress}
 
 abbrev pub is_values : Stage → Bool
 is_values Values = true
@@ -94,5 +94,5 @@ writing (suc room) w vs =
     stop w when is_done w.stage || (awaits w && length vs == 0)
     ∣ further (taken_by w) ((next_of w (slice_index vs 0)).character ∷ []) (writing room (next_of w (slice_index vs 0)).writer (drop (taken_by w) vs))
 
-abbrev pub Writes : Writer → List ℕ → List ℕ → List ℕ → WriteAnswer → Type 0
-Writes w values before after a = Fills (writing (length before) w values) before after a.writer a.taken a.written
+abbrev pub Writes : Writer → List ℕ → List ℕ → List ℕ → Progress Writer → Type 0
+Writes w values before after a = Fills (writing (length before) w values) before after a.state a.taken a.written

@@ -9,6 +9,7 @@ ghost use Rattle.sequence_writer.specs.Writing.{blank, closed, closing, behind_l
 use crate::digits::capital;
 use sequence::limits::{LINE_FEED, LONGEST};
 use sequence::modular::{added, remainder_of};
+use sequence::progress::Progress;
 
 // What is written: values; the rest of their last line; the remainder's line; nothing more
 #[derive(Clone, Copy, PartialEq, Eq, Debug)]
@@ -27,15 +28,6 @@ pub struct Writer {
     pub column: u8,
     pub value: u8,
     pub sum: u8,
-}
-
-// The writer behind the values that were taken, and how many characters were written. Not one generic with the reader's: Reads and Writes
-// speak of a reader and a writer.
-#[derive(Clone, Copy)]
-pub struct WriteAnswer {
-    pub writer: Writer,
-    pub taken: usize,
-    pub written: usize,
 }
 
 // Before the first value
@@ -69,16 +61,17 @@ fn closed(stage: Stage) -> Stage
     }
 }
 
-// Writes characters until there is no room, or none is due. `taken` is counted: it is answered.
-pub fn write(from: Writer, values: &[u8], text: &mut [u8]) -> WriteAnswer
+// Writes characters until there is no room, or none is due. `taken` is counted by hand: it is answered, and not each character moves
+// it, as an index that `enumerate` gives would.
+pub fn write(from: Writer, values: &[u8], text: &mut [u8]) -> Progress<Writer>
     ensures { Writes from values.now text.old text.new result }
 {
     let mut writer = from;
     let mut taken = 0;
     for (written, character) in text.iter_mut().enumerate() {
         let Some(next) = next(writer, values.get(taken).copied()) else {
-            return WriteAnswer {
-                writer,
+            return Progress {
+                state: writer,
                 taken,
                 written,
             };
@@ -87,8 +80,8 @@ pub fn write(from: Writer, values: &[u8], text: &mut [u8]) -> WriteAnswer
         taken += usize::from(awaits(writer));
         writer = next.writer;
     }
-    WriteAnswer {
-        writer,
+    Progress {
+        state: writer,
         taken,
         written: text.len(),
     }
