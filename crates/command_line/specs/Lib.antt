@@ -1,2 +1,3 @@
-pub mod Law
+pub mod CallWords
+pub mod Cutting
 pub mod Status

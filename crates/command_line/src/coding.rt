@@ -1,6 +1,7 @@
 // The words of encode: LAW WIDTH CORE [SAMPLES [EDITION]]. The pair is the same in both programs.
 ghost use Rattle.quantizer.specs.Pair.{is_pair};
-ghost use Rattle.std.specs.Prelude.{◌≡◌, min, IsTrue};
+ghost use Rattle.std.specs.Prelude.{◌≡◌, min, IsTrue, IfOk};
+ghost use Rattle.frame.specs.Header.{is_count, is_edition};
 
 use crate::call_words::Words;
 use crate::law::{Speech, read_speech};
@@ -23,14 +24,15 @@ pub struct Coding {
     pub speech: Speech,
     pub pair: Pair,
     pub samples: usize,
+    // A number, as the calls take it: is_edition says which there are, and an enum of the two would be turned back at each call.
     pub edition: u8,
 }
 
 pub fn read_pair(words: &mut Words) -> Result<Pair, Wrong> {
     let first = words.place;
-    let width = octet_of(words.number(Name::Width)?);
+    let width = octet_of(usize::from(words.number(Name::Width)?));
     let second = words.place;
-    let core = octet_of(words.number(Name::Core)?);
+    let core = octet_of(usize::from(words.number(Name::Core)?));
     if is_pair(width, core) {
         return Ok(Pair { width, core });
     }
@@ -38,13 +40,17 @@ pub fn read_pair(words: &mut Words) -> Result<Pair, Wrong> {
 }
 
 // As the octet that a call takes; 255 where it is greater
-pub fn octet_of(number: u16) -> u8
+pub fn octet_of(number: usize) -> u8
     ensures { result ≡ min number 255 }
 {
     u8::try_from(number).unwrap_or(u8::MAX)
 }
 
-pub fn read_coding(words: &mut Words) -> Result<Coding, Wrong> {
+#[tactic(auto, unfolding(frame::specs::Header::most_groups))]
+pub fn read_coding(words: &mut Words) -> Result<Coding, Wrong>
+    ensures count { IfOk result (λ coding. IsTrue (is_count coding.edition coding.samples)) }
+    ensures edition { IfOk result (λ coding. IsTrue (is_edition coding.edition)) }
+{
     let speech = read_speech(words)?;
     let pair = read_pair(words)?;
     let place = words.place;
@@ -70,11 +76,13 @@ pub fn read_coding(words: &mut Words) -> Result<Coding, Wrong> {
     })
 }
 
-fn read_edition(words: &mut Words) -> Result<u8, Wrong> {
+fn read_edition(words: &mut Words) -> Result<u8, Wrong>
+    ensures { IfOk result (λ edition. IsTrue (is_edition edition)) }
+{
     let place = words.place;
     let edition = match words.next_number() {
         None => PLAIN,
-        Some(number) => octet_of(number),
+        Some(number) => octet_of(usize::from(number)),
     };
     if is_edition(edition) {
         return Ok(edition);

@@ -1,6 +1,7 @@
 // The words of drop: [-most] WIDTH, or [-most] -list FILE.
-ghost use Rattle.std.specs.Prelude.{◌≡◌};
+ghost use Rattle.std.specs.Prelude.{◌≡◌, IfOk};
 ghost use Rattle.quantizer.specs.Pair.{is_pair};
+ghost use Rattle.command_line.specs.Cutting.{AreWidths};
 
 use crate::call_words::Words;
 use crate::coding::octet_of;
@@ -29,18 +30,22 @@ pub fn is_width(width: u8) -> bool
     is_pair(width, LEAST_CORE)
 }
 
-pub fn read_cut(words: &mut Words) -> Result<Cut, Wrong> {
+pub fn read_cut(words: &mut Words) -> Result<Cut, Wrong>
+    ensures { IfOk result (λ cut. AreWidths cut.widths) }
+{
     let most = words.skip_if(b"-most");
     let widths = read_widths(words)?;
     Ok(Cut { most, widths })
 }
 
-fn read_widths(words: &mut Words) -> Result<Widths, Wrong> {
+fn read_widths(words: &mut Words) -> Result<Widths, Wrong>
+    ensures { IfOk result AreWidths }
+{
     if words.skip_if(b"-list") {
         return Ok(Widths::Listed(words.file()?));
     }
     let place = words.place;
-    let width = octet_of(words.number(Name::Width)?);
+    let width = octet_of(usize::from(words.number(Name::Width)?));
     if is_width(width) {
         return Ok(Widths::One(width));
     }

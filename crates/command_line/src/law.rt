@@ -1,29 +1,11 @@
 // LAW: how speech is coded where it is no frame. Linear samples have calls of their own, and of the two programs only the tool
 // takes them.
-ghost use Rattle.std.specs.Prelude.{◌≡◌};
-ghost use Rattle.command_line.specs.Law.{law_number};
+ghost use Rattle.std.specs.Prelude.{◌≡◌, ◌⊎◌, IfErr, codes};
+ghost use Rattle.command_line.specs.CallWords.{place_behind};
 
 use crate::call_words::Words;
 use crate::wrong::{Name, Wrong};
-
-// A law of G.711
-#[derive(Clone, Copy)]
-pub enum Law {
-    Mu,
-    A,
-}
-
-// The number that the calls take
-impl From<Law> for u8 {
-    ghost from_gives = { λ law number. number ≡ law_number law };
-
-    fn from(law: Law) -> u8 {
-        match law {
-            Law::Mu => 0,
-            Law::A => 1,
-        }
-    }
-}
+use text::law::Law;
 
 #[derive(Clone, Copy)]
 pub enum Speech {
@@ -31,27 +13,36 @@ pub enum Speech {
     Linear,
 }
 
-pub fn read_law(words: &mut Words) -> Result<Law, Wrong> {
-    let word = words.named(Name::Law)?;
-    law_named(word.as_bytes()).ok_or(Wrong::NoLaw(word.place))
+// Of the program that takes no linear samples
+pub fn read_law(words: &mut Words) -> Result<Law, Wrong>
+    ensures moves { words.new.place ≡ place_behind words.old.place }
+    ensures wrong { IfErr result (λ wrong. (wrong ≡ Wrong.Missing Name.Law) ⊎ (wrong ≡ Wrong.NoLaw words.old.place)) }
+{
+    let place = words.place;
+    match read_speech(words)? {
+        Speech::Companded(law) => Ok(law),
+        Speech::Linear => Err(Wrong::NoLaw(place)),
+    }
 }
 
-pub fn read_speech(words: &mut Words) -> Result<Speech, Wrong> {
+pub fn read_speech(words: &mut Words) -> Result<Speech, Wrong>
+    ensures moves { words.new.place ≡ place_behind words.old.place }
+    ensures wrong { IfErr result (λ wrong. (wrong ≡ Wrong.Missing Name.Law) ⊎ (wrong ≡ Wrong.NoLaw words.old.place)) }
+{
     let word = words.named(Name::Law)?;
     speech_named(word.as_bytes()).ok_or(Wrong::NoLaw(word.place))
 }
 
-fn law_named(name: &[u8]) -> Option<Law> {
+fn speech_named(name: &[u8]) -> Option<Speech>
+    ensures mu { name.now ≡ codes "mu" → result ≡ Some (Speech.Companded Law.Mu) }
+    ensures a { name.now ≡ codes "a" → result ≡ Some (Speech.Companded Law.A) }
+    ensures linear { name.now ≡ codes "linear" → result ≡ Some Speech.Linear }
+    ensures none { result ≡ None ⊎ (name.now ≡ codes "mu") ⊎ (name.now ≡ codes "a") ⊎ (name.now ≡ codes "linear") }
+{
     match name {
-        b"mu" => Some(Law::Mu),
-        b"a" => Some(Law::A),
-        _ => None,
-    }
-}
-
-fn speech_named(name: &[u8]) -> Option<Speech> {
-    match name {
+        b"mu" => Some(Speech::Companded(Law::Mu)),
+        b"a" => Some(Speech::Companded(Law::A)),
         b"linear" => Some(Speech::Linear),
-        _ => law_named(name).map(Speech::Companded),
+        _ => None,
     }
 }

@@ -1,4 +1,5 @@
-// The help, the version and the usage of each program. The version is that of the file VERSION, the kit's line that of KIT.
+// The help, the version and the usage of each program, and that a program writes such a page or performs its task. The version is
+// that of the file VERSION, the kit's line that of KIT.
 use crate::call_words::Words;
 use crate::program::Program;
 use crate::status::Status;
@@ -31,42 +32,38 @@ fn page_of(words: &mut Words) -> Option<Page> {
     None
 }
 
-// What the words ask: a page, or a task
-#[derive(Drop)]
-enum Asked<T> {
-    Page(Page),
-    Task(T),
-}
-
-// The task that the words ask, read so. Where they ask a page or are wrong, that is written or said, and a program ends with the
-// status.
-pub fn task_of<T: Drop, F: Fn(&HostRuntime) -> Result<T, Wrong> + Drop>(
-    rt: &HostRuntime,
-    program: Program,
-    read: F,
-) -> Result<T, Status>
-    requires { F.IsAlwaysCallable read }
+// Does what the words ask, and answers the status that a program ends with: the page is written, or the task is read and
+// performed. Where they are wrong, that is said.
+pub fn run<
+    T: Drop,
+    R: FnOnce(&HostRuntime) -> Result<T, Wrong> + Drop,
+    P: FnOnce(&HostRuntime, T) -> Status + Drop,
+>(rt: &HostRuntime, program: Program, read: R, perform: P) -> Status
+    requires can_read { R.IsAlwaysCallable read }
+    requires can_perform { P.IsAlwaysCallable perform }
 {
-    match read_asked(rt, read) {
-        Ok(Asked::Task(task)) => Ok(task),
-        Ok(Asked::Page(page)) => Err(page.write(rt, program)),
+    match try_run(rt, program, read, perform) {
+        Ok(status) => status,
         Err(wrong) => {
             wrong.say(rt, program);
-            Err(Status::WrongWords)
+            Status::WrongWords
         }
     }
 }
 
-fn read_asked<T: Drop, F: Fn(&HostRuntime) -> Result<T, Wrong> + Drop>(
-    rt: &HostRuntime,
-    read: F,
-) -> Result<Asked<T>, Wrong>
-    requires { F.IsAlwaysCallable read }
+fn try_run<
+    T: Drop,
+    R: FnOnce(&HostRuntime) -> Result<T, Wrong> + Drop,
+    P: FnOnce(&HostRuntime, T) -> Status + Drop,
+>(rt: &HostRuntime, program: Program, read: R, perform: P) -> Result<Status, Wrong>
+    requires can_read { R.IsAlwaysCallable read }
+    requires can_perform { P.IsAlwaysCallable perform }
 {
     if let Some(page) = read_page(rt)? {
-        return Ok(Asked::Page(page));
+        return Ok(page.write(rt, program));
     }
-    Ok(Asked::Task(read(rt)?))
+    let task = read(rt)?;
+    Ok(perform(rt, task))
 }
 
 impl Page {
@@ -82,7 +79,8 @@ impl Page {
 
     fn print(self, rt: &HostRuntime, program: Program) -> io::Result<()> {
         match self {
-            Page::Help => rt.print(program.help()),
+            // All at once: `print` would write a page of this length in parts, and a reader may leave after the first.
+            Page::Help => rt.write_all(program.help().as_bytes()),
             Page::Version => {
                 println!(rt; "{program} 0.6.0\nproved with rattle-kit-13f logic dac8208d650f15bf")
             }
@@ -99,7 +97,7 @@ impl Program {
     }
 
     // How the program is called
-    pub fn usage(self) -> &'static str {
+    pub(crate) fn usage(self) -> &'static str {
         match self {
             Program::Parchfennel => USAGE_OF_PARCHFENNEL,
             Program::Sequences => USAGE_OF_SEQUENCES,

@@ -2,8 +2,9 @@
 // [HOMING].
 use crate::call_words::Words;
 use crate::coding::{Pair, read_pair};
-use crate::law::{Law, read_law};
+use crate::law::read_law;
 use crate::wrong::{Name, Wrong};
+use text::law::Law;
 
 // How values are coded, and the place of HOMING's word
 #[derive(Clone, Copy)]

@@ -1,5 +1,6 @@
 // What a program ends with.
-ghost use Rattle.std.specs.Prelude.{◌≡◌};
+ghost use Rattle.std.specs.Prelude.{◌≡◌, OnOk, OnErr};
+ghost use Rattle.std.specs.Process.{exit_status};
 ghost use Rattle.command_line.specs.Status.{status_number, joined};
 
 use std::process::ExitCode;
@@ -18,7 +19,10 @@ pub trait Stopping {
 
 impl Status {
     // Says what stopped it, if anything did
-    pub fn of<S: Stopping>(rt: &HostRuntime, outcome: Result<(), S>) -> Status {
+    pub fn of<S: Stopping>(rt: &HostRuntime, outcome: Result<(), S>) -> Status
+        ensures done { OnOk outcome (result ≡ Status.Done) }
+        ensures stopped { OnErr outcome (result ≡ Status.Failed) }
+    {
         match outcome {
             Ok(()) => Status::Done,
             Err(stop) => {
@@ -52,6 +56,8 @@ impl From<Status> for u8 {
 }
 
 impl From<Status> for ExitCode {
+    ghost from_gives = { λ status code. exit_status code ≡ status_number status };
+
     fn from(status: Status) -> ExitCode {
         ExitCode::from(u8::from(status))
     }

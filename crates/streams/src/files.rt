@@ -1,6 +1,6 @@
 // Files that a word of the call names, opened, and the standard streams kept apart from them.
 use crate::failure::Failure;
-use crate::names::unnamed;
+use crate::names::{Access, unnamed};
 use command_line::call_words::Word;
 use std::fs::File;
 use std::os::fd::{AsRawFd, IntoRawFd};
@@ -34,14 +34,15 @@ fn hold_standard(rt: &HostRuntime) {
     }
 }
 
-// The file of the word there, to be read
+// The file of the word there, to be read. The place and the name that the file is told of by go together through these three only: a
+// struct of both would be made at each call, and taken apart here at once.
 pub fn opened(rt: &HostRuntime, place: usize, name: &'static str) -> Result<Stream, Failure> {
-    stream_of(open_word(rt, place, false), place, name)
+    stream_of(open_word(rt, place, Access::Read), place, name)
 }
 
 // The file of the word there, made or emptied, to be written
 pub fn created(rt: &HostRuntime, place: usize, name: &'static str) -> Result<Stream, Failure> {
-    stream_of(open_word(rt, place, true), place, name)
+    stream_of(open_word(rt, place, Access::Create), place, name)
 }
 
 fn stream_of(file: io::Result<File>, place: usize, name: &'static str) -> Result<Stream, Failure> {
@@ -51,14 +52,14 @@ fn stream_of(file: io::Result<File>, place: usize, name: &'static str) -> Result
     }
 }
 
-fn open_word(rt: &HostRuntime, place: usize, written: bool) -> io::Result<File> {
+fn open_word(rt: &HostRuntime, place: usize, access: Access) -> io::Result<File> {
     let word = Word::at(rt, place).ok_or(io::ErrorKind::NotFound)?;
     let name = word.as_bytes();
     let Ok(path) = str::from_utf8(name) else {
-        return Err(unnamed(rt, name, written));
+        return Err(unnamed(rt, name, access));
     };
-    if written {
-        return fs::create(rt, path);
+    match access {
+        Access::Read => fs::open(rt, path),
+        Access::Create => fs::create(rt, path),
     }
-    fs::open(rt, path)
 }

@@ -15,8 +15,15 @@ const ENAMETOOLONG: i32 = 36;
 
 const EILSEQ: i32 = 84;
 
-// Why it is not opened. What is written would be made where it is missing.
-pub fn unnamed(rt: &HostRuntime, name: &[u8], written: bool) -> Error {
+// What a file is opened for: to be read, or made where it is missing, emptied where it is there, and written
+#[derive(Clone, Copy)]
+pub enum Access {
+    Read,
+    Create,
+}
+
+// Why it is not opened
+pub fn unnamed(rt: &HostRuntime, name: &[u8], access: Access) -> Error {
     if LONGEST < name.len() {
         return Error::from_raw_os_error(ENAMETOOLONG);
     }
@@ -24,10 +31,10 @@ pub fn unnamed(rt: &HostRuntime, name: &[u8], written: bool) -> Error {
         Ok(listed) => listed,
         Err(error) => return error,
     };
-    if listed | written {
-        return Error::from_raw_os_error(EILSEQ);
+    match access {
+        Access::Read if !listed => Error::from_raw_os_error(ENOENT),
+        Access::Read | Access::Create => Error::from_raw_os_error(EILSEQ),
     }
-    Error::from_raw_os_error(ENOENT)
 }
 
 // Whether its folder has it, where the folder's name is UTF-8

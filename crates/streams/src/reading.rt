@@ -1,4 +1,4 @@
-// Octets that are read from a stream.
+// Octets that are read from a stream. ReadsAtMost is std's word for what a read promises, and so each of these says it.
 ghost use Rattle.std.specs.Io.{ReadsAtMost};
 
 use crate::failure::Failure;

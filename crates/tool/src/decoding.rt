@@ -1,7 +1,7 @@
 // decode: a frame in, samples out.
 use crate::making::{Made, ROOM};
 use arrayvec::ArrayVec;
-use command_line::law::{Law, Speech};
+use command_line::law::Speech;
 use decode::decode;
 use decode_linear::decode_linear;
 use frame::header::{MOST_SAMPLES, read_header};
@@ -13,25 +13,20 @@ use text::samples::{Order, octets_of};
 
 pub fn decoded(speech: Speech, frame: u64, s: State, octets: &[u8]) -> Result<Made, Refusal> {
     let s = state_at(frame, s, octets);
-    match speech {
-        Speech::Companded(law) => decoded_companded(law, s, octets),
-        Speech::Linear => decoded_linear(s, octets),
-    }
-}
-
-fn decoded_companded(law: Law, s: State, octets: &[u8]) -> Result<Made, Refusal> {
     let mut out = ArrayVec::from([0; ROOM]);
-    let Answer { state, done } = decode(s, u8::from(law), octets, out.as_mut_slice());
-    out.truncate(done?.samples);
-    Ok(Made { octets: out, state })
-}
-
-fn decoded_linear(s: State, octets: &[u8]) -> Result<Made, Refusal> {
-    let mut samples = [0; MOST_SAMPLES];
-    let Answer { state, done } = decode_linear(s, octets, &mut samples);
-    let n = done?.samples.min(MOST_SAMPLES);
-    let mut out = ArrayVec::from([0; ROOM]);
-    let count = octets_of(&samples[..n], Order::LowFirst, out.as_mut_slice());
+    let (state, count) = match speech {
+        Speech::Companded(law) => {
+            let Answer { state, done } = decode(s, u8::from(law), octets, out.as_mut_slice());
+            (state, done?.samples)
+        }
+        Speech::Linear => {
+            let mut samples = [0; MOST_SAMPLES];
+            let Answer { state, done } = decode_linear(s, octets, &mut samples);
+            let n = done?.samples.min(MOST_SAMPLES);
+            let count = octets_of(&samples[..n], Order::LowFirst, out.as_mut_slice());
+            (state, count)
+        }
+    };
     out.truncate(count);
     Ok(Made { octets: out, state })
 }

@@ -21,20 +21,25 @@ pub fn encoded(coding: Coding, s: State, speech: &[u8]) -> Result<Made, Refusal>
             encode(s, u8::from(law), edition, width, speech, out.as_mut_slice())
         }
         Speech::Linear => {
-            let mut samples = [0; MOST_SAMPLES];
-            let n = samples_in(speech, Order::LowFirst, &mut samples);
-            encode_linear(s, edition, width, &samples[..n], out.as_mut_slice())
+            let samples = linear_samples(speech);
+            encode_linear(s, edition, width, samples.as_slice(), out.as_mut_slice())
         }
     };
     Made::of(out, answer)
 }
 
+fn linear_samples(speech: &[u8]) -> ArrayVec<i16, MOST_SAMPLES> {
+    let mut samples = ArrayVec::from([0; MOST_SAMPLES]);
+    let count = samples_in(speech, Order::LowFirst, samples.as_mut_slice());
+    samples.truncate(count);
+    samples
+}
+
 // The first that is no level, with its place in the stream; the frame's octets begin at `octet`, two to a sample.
 pub fn first_off_scale(octet: u64, speech: &[u8]) -> Option<Fault> {
-    let mut samples = [0; MOST_SAMPLES];
-    let n = samples_in(speech, Order::LowFirst, &mut samples);
+    let samples = linear_samples(speech);
     let (place, sample) = (octet / 2..)
-        .zip(&samples[..n])
+        .zip(samples.as_slice())
         .find(|(_, sample)| !is_level(**sample))?;
     Some(Fault::Sample(place, *sample))
 }

@@ -23,10 +23,10 @@ impl Files {
             None => Stream::Standard,
             Some(place) => created(rt, place, "OUT")?,
         };
-        let states = match task.states {
-            None => None,
-            Some(place) => Some(created(rt, place, "the file of -states")?),
-        };
+        let states = task
+            .states
+            .map(|place| created(rt, place, "the file of -states"))
+            .transpose()?;
         Ok(Files {
             input,
             output,

@@ -37,8 +37,7 @@ pub fn inspected(frame: u64, s: State, octets: &[u8]) -> Result<Made, Refusal> {
         header,
         octets: octets.len(),
     };
-    let mut line = ArrayVec::from([0; ROOM]);
-    line.clear();
+    let mut line = ArrayVec::<u8, ROOM>::new();
     // A row is shorter than the room.
     let _ = writeln!(line, "{row}");
     Ok(Made {
@@ -71,6 +70,7 @@ impl Display for Row {
 
 impl Display for Totals {
     fn fmt<W: fmt::Write>(&self, f: &mut Formatter<W>) -> fmt::Result {
+        // std prints no fixed point but a float's, which would round what is great.
         let milliseconds = self.samples / 8;
         let tenths = rate(self.octets, milliseconds);
         write!(

@@ -18,14 +18,11 @@ mod stop;
 mod stream;
 mod work;
 
-use command_line::pages::task_of;
+use command_line::pages;
 use command_line::program::Program;
 use command_line::status::Status;
 
 // Does what the program's words ask
 pub fn run(rt: &HostRuntime) -> Status {
-    match task_of(rt, Program::Parchfennel, command_line::read) {
-        Ok(task) => work::perform(rt, task),
-        Err(status) => status,
-    }
+    pages::run(rt, Program::Parchfennel, command_line::read, work::perform)
 }

@@ -1,4 +1,9 @@
 // What a command does with each piece of its input, and what it makes of one.
+ghost use Rattle.std.specs.Prelude.{◌≡◌, IfOk, take};
+ghost use Rattle.replies.specs.Reply.{number_of, reported};
+ghost use Rattle.reset.specs.Reset.{reset_state};
+ghost use Rattle.tool.specs.Beginning.{first_core};
+
 use crate::decoding::decoded;
 use crate::dropping::{dropped, width_of};
 use crate::encoding::encoded;
@@ -9,7 +14,7 @@ use arrayvec::ArrayVec;
 use command_line::Command;
 use command_line::coding::Coding;
 use command_line::cutting::Widths;
-use command_line::law::{Law, Speech};
+use command_line::law::Speech;
 use frame::header::MOST_SAMPLES;
 use replies::Refusal;
 use reset::reset;
@@ -37,7 +42,11 @@ pub struct Made {
 
 impl Made {
     // What a call has put into the buffer, as many octets as it answers
-    pub fn of(mut octets: ArrayVec<u8, ROOM>, answer: Answer<usize>) -> Result<Made, Refusal> {
+    pub fn of(mut octets: ArrayVec<u8, ROOM>, answer: Answer<usize>) -> Result<Made, Refusal>
+        ensures refused { number_of result ≡ number_of answer.done }
+        ensures taken { IfOk result (λ made. made.octets.items ≡ take (reported (λ n. n) answer.done) octets.items) }
+        ensures state { IfOk result (λ made. made.state ≡ answer.state) }
+    {
         octets.truncate(answer.done?);
         let state = answer.state;
         Ok(Made { octets, state })
@@ -64,21 +73,15 @@ impl Work {
     }
 
     // The state that the first piece meets. decode takes the first frame's core instead, and drop and inspect have no state.
-    pub fn first_state(&self) -> State {
+    pub fn first_state(&self) -> State
+        ensures { result ≡ reset_state (first_core self.now) }
+    {
         let core = match self {
             Work::Encode(coding) => coding.pair.core,
             _ => 2,
         };
         let started = reset(core);
         started.state
-    }
-
-    // What is not read over stays silent, so that the last frame of encode is filled up with it.
-    pub fn silence(&self) -> [u8; ROOM] {
-        match self {
-            Work::Encode(coding) => silence(coding.speech),
-            _ => [0; ROOM],
-        }
     }
 
     pub fn make(&self, place: Place, state: State, piece: &[u8]) -> Result<Made, Refusal> {
@@ -94,13 +97,5 @@ impl Work {
             Work::Decode(speech) => decoded(*speech, place.frame, state, piece),
             Work::Inspect => inspected(place.frame, state, piece),
         }
-    }
-}
-
-fn silence(speech: Speech) -> [u8; ROOM] {
-    match speech {
-        Speech::Companded(Law::Mu) => [0xff; ROOM],
-        Speech::Companded(Law::A) => [0xd5; ROOM],
-        Speech::Linear => [0; ROOM],
     }
 }

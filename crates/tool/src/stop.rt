@@ -1,4 +1,7 @@
 // Why the tool stops before the end of its input, as it is said on standard error.
+ghost use Rattle.std.specs.Prelude.{◌≡◌};
+ghost use Rattle.tool.specs.Stop.{is_unwritten};
+
 use command_line::program::Program;
 use command_line::quoting::say_quoting;
 use command_line::status::Stopping;
@@ -82,16 +85,18 @@ impl Display for ListFault {
 impl Display for Fault {
     fn fmt<W: fmt::Write>(&self, f: &mut Formatter<W>) -> fmt::Result {
         match self {
-            Fault::Refused(refusal) => { write!(f, "refused with {}: {refusal}", refusal.number()) }
+            Fault::Refused(refusal) => {
+                write!(f, "refused with {}: {refusal}", u8::from(*refusal))
+            }
             Fault::Number(found, due) => {
-                let reply = Refusal::Number.number();
+                let reply = u8::from(Refusal::Number);
                 write!(
                     f,
                     "refused with {reply}: number {found} where {due} was due"
                 )
             }
             Fault::Sample(place, value) => {
-                let reply = Refusal::Sample.number();
+                let reply = u8::from(Refusal::Sample);
                 write!(
                     f,
                     "refused with {reply}: sample {place} is {value}, not from -8192 to 8191"
@@ -128,7 +133,9 @@ impl Stopping for Stop {
 
 impl Stop {
     // Whether what was made could not be written
-    pub fn is_unwritten(self) -> bool {
+    pub fn is_unwritten(self) -> bool
+        ensures { result ≡ is_unwritten self }
+    {
         matches!(self, Stop::Stream(Failure::Unwritten(_, _)))
     }
 }

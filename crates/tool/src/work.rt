@@ -6,7 +6,6 @@ use crate::making::Work;
 use crate::states;
 use crate::states::Row;
 use crate::stop::{Fault, Place, Stop};
-use crate::stream::next_piece;
 use command_line::Task;
 use command_line::program::Program;
 use command_line::status::Status;
@@ -14,6 +13,14 @@ use frame::header::{read_header, sample_count};
 use replies::Refusal;
 use state::State;
 use streams::writing::{write_all, write_line};
+
+// A task made ready: what becomes of each piece, the files, and whether the states are said
+#[derive(Drop)]
+struct Job {
+    verbose: bool,
+    work: Work,
+    files: Files,
+}
 
 // Between two pieces: where the next one begins, how many samples there were, and the state
 #[derive(Clone, Copy)]
@@ -24,98 +31,91 @@ struct Turn {
 }
 
 pub fn perform(rt: &HostRuntime, task: Task) -> Status {
-    match begin(rt, task) {
-        Ok((work, files)) => {
-            let ran = run(rt, task.verbose, &work, &files);
-            ran.and(Status::of(rt, files.settle(rt).map_err(Stop::from)))
+    match Job::begin(rt, task) {
+        Ok(job) => {
+            let ran = job.run(rt);
+            ran.and(Status::of(rt, job.files.settle(rt).map_err(Stop::from)))
         }
         Err(stop) => Status::of(rt, Err(stop)),
     }
 }
 
-fn begin(rt: &HostRuntime, task: Task) -> Result<(Work, Files), Stop> {
-    let work = Work::of(rt, task.command)?;
-    let files = Files::open(rt, task)?;
-    Ok((work, files))
-}
-
-// The totals are of a stream that stopped too, unless they cannot be written.
-fn run(rt: &HostRuntime, verbose: bool, work: &Work, files: &Files) -> Status {
-    let mut turn = Turn {
-        place: Place { frame: 0, octet: 0 },
-        samples: 0,
-        state: work.first_state(),
-    };
-    let outcome = run_all(rt, verbose, work, files, &mut turn);
-    let ran = Status::of(rt, outcome);
-    match outcome {
-        Err(stop) if stop.is_unwritten() => ran,
-        _ => ran.and(Status::of(rt, end(rt, work, files, turn))),
+impl Job {
+    fn begin(rt: &HostRuntime, task: Task) -> Result<Job, Stop> {
+        let work = Work::of(rt, task.command)?;
+        let files = Files::open(rt, task)?;
+        Ok(Job {
+            verbose: task.verbose,
+            work,
+            files,
+        })
     }
-}
 
-// A proved loop has to end, and nothing says that a stream does: it ends before a piece whose number no run reaches.
-fn run_all(
-    rt: &HostRuntime,
-    verbose: bool,
-    work: &Work,
-    files: &Files,
-    turn: &mut Turn,
-) -> Result<(), Stop> {
-    if let Work::Inspect = work {
-        write_line(rt, &files.output, HEADING)?;
-    }
-    states::begin(rt, &files.states)?;
-    for _ in 0..u64::MAX {
-        if !next(rt, verbose, work, files, turn)? {
-            break;
+    // The totals are of a stream that stopped too, unless they cannot be written.
+    fn run(&self, rt: &HostRuntime) -> Status {
+        let mut turn = Turn {
+            place: Place { frame: 0, octet: 0 },
+            samples: 0,
+            state: self.work.first_state(),
+        };
+        let outcome = self.run_all(rt, &mut turn);
+        let ran = Status::of(rt, outcome);
+        match outcome {
+            Err(stop) if stop.is_unwritten() => ran,
+            _ => ran.and(Status::of(rt, self.end(rt, turn))),
         }
     }
-    Ok(())
-}
 
-// Answers whether there was a piece.
-fn next(
-    rt: &HostRuntime,
-    verbose: bool,
-    work: &Work,
-    files: &Files,
-    turn: &mut Turn,
-) -> Result<bool, Stop> {
-    let Turn { place, state, .. } = *turn;
-    let mut buf = work.silence();
-    let Some(piece) = next_piece(rt, work, &files.input, &mut buf, place)? else {
-        return Ok(false);
-    };
-    let made = match work.make(place, state, piece.octets) {
-        Ok(made) => made,
-        Err(refusal) => return Err(Stop::Piece(
-            place,
-            fault_of(refusal, place, state, piece.octets),
-        )),
-    };
-    // Not before the call, since no frame that is refused is filled up
-    if 0 < piece.added {
-        say_filled(rt, place, piece.added);
+    // A proved loop has to end, and nothing says that a stream does: it ends before a piece whose number no run reaches.
+    fn run_all(&self, rt: &HostRuntime, turn: &mut Turn) -> Result<(), Stop> {
+        if let Work::Inspect = self.work {
+            write_line(rt, &self.files.output, HEADING)?;
+        }
+        states::begin(rt, &self.files.states)?;
+        for _ in 0..u64::MAX {
+            if !self.next(rt, turn)? {
+                break;
+            }
+        }
+        Ok(())
     }
-    write_all(rt, &files.output, made.octets.as_slice())?;
-    let row = Row {
-        frame: place.frame,
-        state: made.state,
-    };
-    states::show(rt, verbose, &files.states, row)?;
-    turn.pass(made.state, piece.octets);
-    Ok(true)
-}
 
-// What was refused, with what the reply's row does not say
-fn fault_of(refusal: Refusal, place: Place, state: State, piece: &[u8]) -> Fault {
-    let fault = match refusal {
-        Refusal::Number => Some(Fault::Number(read_header(piece).number, state.number)),
-        Refusal::Sample => first_off_scale(place.octet, piece),
-        _ => None,
-    };
-    fault.unwrap_or(Fault::Refused(refusal))
+    // Answers whether there was a piece.
+    fn next(&self, rt: &HostRuntime, turn: &mut Turn) -> Result<bool, Stop> {
+        let Turn { place, state, .. } = *turn;
+        let Some(piece) = self.files.next_piece(rt, &self.work, place)? else {
+            return Ok(false);
+        };
+        let octets = piece.octets.as_slice();
+        let made = self
+            .work
+            .make(place, state, octets)
+            .map_err(|refusal| turn.refused(refusal, octets))?;
+        // Not before the call, since no frame that is refused is filled up
+        if 0 < piece.added {
+            say_filled(rt, place, piece.added);
+        }
+        write_all(rt, &self.files.output, made.octets.as_slice())?;
+        let row = Row {
+            frame: place.frame,
+            state: made.state,
+        };
+        states::show(rt, self.verbose, &self.files.states, row)?;
+        turn.pass(made.state, octets);
+        Ok(true)
+    }
+
+    fn end(&self, rt: &HostRuntime, turn: Turn) -> Result<(), Stop> {
+        if let Work::Inspect = self.work {
+            let totals = Totals {
+                frames: turn.place.frame,
+                octets: turn.place.octet,
+                samples: turn.samples,
+            };
+            write_line(rt, &self.files.output, totals)?;
+        }
+        Ok(())
+    }
 }
 
 fn say_filled(rt: &HostRuntime, place: Place, samples: usize) {
@@ -126,24 +126,23 @@ fn say_filled(rt: &HostRuntime, place: Place, samples: usize) {
 }
 
 impl Turn {
+    // What was refused, with what the reply's row does not say
+    fn refused(self, refusal: Refusal, piece: &[u8]) -> Stop {
+        let fault = match refusal {
+            Refusal::Number => Some(Fault::Number(read_header(piece).number, self.state.number)),
+            Refusal::Sample => first_off_scale(self.place.octet, piece),
+            _ => None,
+        };
+        Stop::Piece(self.place, fault.unwrap_or(Fault::Refused(refusal)))
+    }
+
     // Behind a piece. Encode's has no header, and its totals nobody asks for.
     fn pass(&mut self, state: State, piece: &[u8]) {
+        // std has no From of usize for u64; the check proves that `as` keeps the value.
         let samples = sample_count(read_header(piece)) as u64;
         self.place.frame = self.place.frame.wrapping_add(1);
         self.place.octet = self.place.octet.wrapping_add(piece.len() as u64);
         self.samples = self.samples.wrapping_add(samples);
         self.state = state;
     }
-}
-
-fn end(rt: &HostRuntime, work: &Work, files: &Files, turn: Turn) -> Result<(), Stop> {
-    if let Work::Inspect = work {
-        let totals = Totals {
-            frames: turn.place.frame,
-            octets: turn.place.octet,
-            samples: turn.samples,
-        };
-        write_line(rt, &files.output, totals)?;
-    }
-    Ok(())
 }

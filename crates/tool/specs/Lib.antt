@@ -1,0 +1,4 @@
+pub mod Beginning
+pub mod Speech
+pub mod Stop
+pub mod Widths
