@@ -1,5 +1,5 @@
 // The codewords that a decoder takes with no encoder before it: the I-inputs, and the held codeword.
-ghost use Rattle.std.specs.Prelude.{◌-◌, ◌^◌, ◌<◌, IfOk, All};
+ghost use Rattle.std.specs.Prelude.{◌≡◌, ◌-◌, ◌^◌, ◌<◌, IfOk, All, replicate, vec_len};
 ghost use Rattle.quantizer.specs.Codeword.{Width, Codeword};
 
 use crate::magnitudes::{at_width, magnitudes};
@@ -7,9 +7,18 @@ use crate::signs::signs;
 use quantizer::codeword::half;
 use std::alloc::{AllocError, Global};
 
-pub fn i_input(alloc: Global, width: u8) -> Result<Vec<u8>, AllocError>
-    requires { Width width }
-    ensures { IfOk result (λ v. All (Codeword width) v.items) }
+// How many bits the codewords of a run have
+#[derive(Clone, Copy)]
+pub struct CodewordWidth {
+    pub bits: u8,
+    ghost is_width: { Width bits },
+}
+
+// `Codeword` stands in the contracts here and where codewords are played: it ties a codeword to the width of the run that
+// it is for. Of a struct that held both it would be left to say that its width is that run's, so that form is no plainer.
+pub fn i_input(alloc: Global, width: CodewordWidth) -> Result<Vec<u8>, AllocError>
+    ensures codewords { IfOk result (λ v. All (Codeword width.bits) v.items) }
+    ensures count { IfOk result (λ v. vec_len v ≡ 16384) }
 {
     let magnitudes = magnitudes(alloc)?;
     let signs = signs(alloc)?;
@@ -20,22 +29,21 @@ pub fn i_input(alloc: Global, width: u8) -> Result<Vec<u8>, AllocError>
     Ok(codewords)
 }
 
-fn signed(width: u8, magnitude: u8, negative: bool) -> u8
-    requires width { Width width }
-    requires magnitude { magnitude < 2 ^ (width - 1) }
-    ensures { Codeword width result }
+fn signed(width: CodewordWidth, magnitude: u8, negative: bool) -> u8
+    requires { magnitude < 2 ^ (width.bits - 1) }
+    ensures { Codeword width.bits result }
 {
     if negative {
-        2 * half(width) - 1 - magnitude
+        2 * half(width.bits) - 1 - magnitude
     } else {
         magnitude
     }
 }
 
 // The greatest magnitude, positive
-pub fn held(alloc: Global, width: u8) -> Result<Vec<u8>, AllocError>
-    requires { Width width }
-    ensures { IfOk result (λ v. All (Codeword width) v.items) }
+pub fn held(alloc: Global, width: CodewordWidth) -> Result<Vec<u8>, AllocError>
+    ensures codewords { IfOk result (λ v. All (Codeword width.bits) v.items) }
+    ensures items { IfOk result (λ v. v.items ≡ replicate 2000 (2 ^ (width.bits - 1) - 1)) }
 {
-    vec![in alloc; half(width) - 1; 2000]
+    vec![in alloc; half(width.bits) - 1; 2000]
 }

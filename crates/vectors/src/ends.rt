@@ -26,12 +26,16 @@ pub struct Sample {
 }
 
 impl Ends {
-    ghost use Rattle.std.specs.Prelude.{◌≡◌};
+    ghost use Rattle.std.specs.Prelude.{◌≡◌, Some};
     ghost use Rattle.quantizer.specs.Codeword.{Codeword};
+    ghost use Rattle.state.specs.Reset.{reset_of};
+    ghost use Rattle.vectors.specs.Ends.{coded_of, moved, sample_of};
 
     #[tactic(auto, using(state::proofs::Ranges::reset_memory_in_range), unfolding(state::specs::Reset::reset_of))]
     pub fn reset(run: Run) -> Ends
-        ensures { result.run ≡ run }
+        ensures run { result.run ≡ run }
+        ensures encoder { result.encoder ≡ reset_of run.core }
+        ensures decoder { result.decoder ≡ reset_of run.core }
     {
         Ends {
             run,
@@ -43,10 +47,13 @@ impl Ends {
     // An octet through both ends
     #[tactic(auto, using(sample::proofs::Tracks::encode_in_range, sample::proofs::Tracks::encode_codeword))]
     pub fn code(&mut self, octet: u8) -> Sample
-        ensures { self.new.run ≡ self.old.run }
+        ensures run { self.new.run ≡ self.old.run }
+        ensures encoder { self.new.encoder ≡ moved self.old.encoder (coded_of self.old.run self.old.encoder octet).memory }
+        ensures decoder { self.new.decoder ≡ result.decoder }
+        ensures sample { result ≡ sample_of self.old.run self.old.decoder (Some octet) (coded_of self.old.run self.old.encoder octet).codeword }
     {
         let run = self.run;
-        let law = run.laws.sent() as u8;
+        let law = u8::from(run.laws.sent());
         let coded = encode_byte(self.encoder.memory, run.core, law, run.width, octet);
         self.encoder.memory = coded.memory;
         self.play(Some(octet), coded.codeword)
@@ -56,10 +63,13 @@ impl Ends {
     #[tactic(auto, using(sample::proofs::Tracks::play_in_range))]
     pub fn play(&mut self, input: Option<u8>, codeword: u8) -> Sample
         requires { Codeword self.old.run.width codeword }
-        ensures { self.new.run ≡ self.old.run }
+        ensures run { self.new.run ≡ self.old.run }
+        ensures encoder { self.new.encoder ≡ self.old.encoder }
+        ensures decoder { self.new.decoder ≡ result.decoder }
+        ensures sample { result ≡ sample_of self.old.run self.old.decoder input codeword }
     {
         let run = self.run;
-        let law = run.laws.heard() as u8;
+        let law = u8::from(run.laws.heard());
         let played = decode_byte(self.decoder.memory, run.core, law, run.width, codeword);
         self.decoder.memory = played.memory;
         Sample {

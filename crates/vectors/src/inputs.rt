@@ -1,11 +1,14 @@
 // The PCM octets of the four inputs under both laws, from eight files in the folder that the program is run in.
-use crate::laws::Law;
+ghost use Rattle.std.specs.Prelude.{◌≡◌};
+ghost use Rattle.vectors.specs.Inputs.{octets_under};
+
 use std::alloc::AllocError;
 use std::fmt;
 use std::fmt::{Display, Formatter};
 use std::fs::File;
 use std::io::{Error, Read};
 use text::failure::Why;
+use text::law::Law;
 
 #[derive(Drop)]
 pub struct Inputs {
@@ -47,7 +50,9 @@ impl Display for Unread {
 }
 
 impl Input {
-    pub fn under(&self, law: Law) -> &[u8] {
+    pub fn under(&self, law: Law) -> &[u8]
+        ensures { result.now ≡ octets_under law self.now }
+    {
         match law {
             Law::Mu => &self.mu,
             Law::A => &self.a,

@@ -1,13 +1,10 @@
 // The laws of a run's two ends.
+ghost use Rattle.std.specs.Prelude.{◌≡◌};
+ghost use Rattle.vectors.specs.Laws.{law_sent, law_heard};
+
 use std::fmt;
 use std::fmt::{Display, Formatter};
-
-// By its number in the calls
-#[derive(Clone, Copy)]
-pub enum Law {
-    Mu = 0,
-    A = 1,
-}
+use text::law::Law;
 
 #[derive(Clone, Copy)]
 pub enum Laws {
@@ -19,7 +16,9 @@ pub enum Laws {
 
 impl Laws {
     // The encoder's, and that of the homing sequence
-    pub fn sent(self) -> Law {
+    pub fn sent(self) -> Law
+        ensures { result ≡ law_sent self }
+    {
         match self {
             Laws::Mu | Laws::MuToA => Law::Mu,
             Laws::A | Laws::AToMu => Law::A,
@@ -27,7 +26,9 @@ impl Laws {
     }
 
     // The decoder's
-    pub fn heard(self) -> Law {
+    pub fn heard(self) -> Law
+        ensures { result ≡ law_heard self }
+    {
         match self {
             Laws::Mu | Laws::AToMu => Law::Mu,
             Laws::A | Laws::MuToA => Law::A,

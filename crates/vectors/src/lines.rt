@@ -17,12 +17,8 @@ impl Display for Performance {
             return f.write_str("states differ");
         }
         let samples = &self.samples;
-        let codewords = samples
-            .iter()
-            .fold(0, |sum, sample| add(sum, u32::from(sample.codeword)));
-        let octets = samples
-            .iter()
-            .fold(0, |sum, sample| add(sum, u32::from(sample.octet)));
+        let codewords = checksum_by(samples, |sample| sample.codeword);
+        let octets = checksum_by(samples, |sample| sample.octet);
         write!(
             f,
             "{} {codewords} {octets} {}",
@@ -30,6 +26,15 @@ impl Display for Performance {
             of_state(decoder)
         )
     }
+}
+
+// The checksum of what each sample has of a kind
+fn checksum_by<F: Fn(Sample) -> u8>(samples: &[Sample], part: F) -> u32
+    requires { F.IsAlwaysCallable part }
+{
+    samples
+        .iter()
+        .fold(0, |sum, sample| add(sum, u32::from(part(*sample))))
 }
 
 // What stands behind the sample's index

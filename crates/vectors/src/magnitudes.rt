@@ -1,7 +1,7 @@
 // The magnitudes of the I-inputs at width 4, Table 9 of the ITU's description, and what they become at the other widths.
-ghost use Rattle.std.specs.Prelude.{◌-◌, ◌^◌, ◌<◌, IfOk, All};
-ghost use Rattle.quantizer.specs.Codeword.{Width};
+ghost use Rattle.std.specs.Prelude.{◌≡◌, ◌-◌, ◌*◌, ◌/◌, ◌^◌, ◌<◌, IfOk, All, vec_len};
 
+use crate::codewords::CodewordWidth;
 use std::alloc::{AllocError, Global};
 
 // In each row sixteen times one magnitude and sixteen times the other in turn, and the row's length
@@ -36,7 +36,8 @@ const ROWS: [(u8, u8, usize); 27] = [
 ];
 
 pub fn magnitudes(alloc: Global) -> Result<Vec<u8>, AllocError>
-    ensures { IfOk result (λ v. All (λ m. m < 8) v.items) }
+    ensures small { IfOk result (λ v. All (λ m. m < 8) v.items) }
+    ensures count { IfOk result (λ v. vec_len v ≡ 16384) }
 {
     let mut magnitudes = Vec::new(alloc);
     for (one, other, length) in &ROWS {
@@ -47,12 +48,12 @@ pub fn magnitudes(alloc: Global) -> Result<Vec<u8>, AllocError>
     Ok(magnitudes)
 }
 
-pub fn at_width(width: u8, magnitude: u8) -> u8
-    requires width { Width width }
-    requires magnitude { magnitude < 8 }
-    ensures { result < 2 ^ (width - 1) }
+pub fn at_width(width: CodewordWidth, magnitude: u8) -> u8
+    requires { magnitude < 8 }
+    ensures value { result ≡ magnitude * 2 ^ (width.bits - 1) / 8 }
+    ensures short { result < 2 ^ (width.bits - 1) }
 {
-    match width {
+    match width.bits {
         5 => 2 * magnitude,
         4 => magnitude,
         3 => magnitude / 2,

@@ -13,6 +13,8 @@ mod magnitudes;
 mod names;
 mod runs;
 mod signs;
+#[cfg(test)]
+mod tests;
 
 use drive::perform;
 use inputs::{Inputs, Unread};

@@ -1,6 +1,8 @@
 // The 189 runs of docs/SEQUENCES.md in its order: all R, then all H, then the jumps, then the held codeword. Within R and
 // H the inputs N, V and I, within these the pairs, within a pair the laws M, A, C and X, or M and A.
+ghost use Rattle.std.specs.Prelude.{◌≡◌, ◌+◌, ◌*◌, length, IfOk, OnOk, vec_len};
 ghost use Rattle.quantizer.specs.Pair.{Pair};
+ghost use Rattle.vectors.specs.Runs.{laws_count};
 
 use crate::laws::Laws;
 use std::alloc::{AllocError, Global};
@@ -16,7 +18,9 @@ pub enum Kind {
 
 impl Kind {
     // Those of its sequences at a pair, in their order
-    fn laws(self) -> &'static [Laws] {
+    fn laws(self) -> &'static [Laws]
+        ensures { length result.now ≡ laws_count self }
+    {
         match self {
             Kind::Normal | Kind::Overload => &[Laws::Mu, Laws::A, Laws::MuToA, Laws::AToMu],
             Kind::Codewords | Kind::Jump => &[Laws::Mu, Laws::A],
@@ -35,7 +39,22 @@ pub struct Run {
     ghost is_pair: { Pair width core },
 }
 
-pub fn all_runs(alloc: Global) -> Result<Vec<Run>, AllocError> {
+// The nine pairs in their order, each as its width and its core
+const PAIRS: [(u8, u8); 9] = [
+    (5, 2),
+    (4, 2),
+    (3, 2),
+    (2, 2),
+    (5, 3),
+    (4, 3),
+    (3, 3),
+    (5, 4),
+    (4, 4),
+];
+
+pub fn all_runs(alloc: Global) -> Result<Vec<Run>, AllocError>
+    ensures { IfOk result (λ v. vec_len v ≡ 189) }
+{
     let mut runs = Vec::new(alloc);
     for homed in [false, true] {
         for kind in [Kind::Normal, Kind::Overload, Kind::Codewords] {
@@ -51,12 +70,11 @@ pub fn all_runs(alloc: Global) -> Result<Vec<Run>, AllocError> {
     Ok(runs)
 }
 
-// 52, 42, 32, 22, 53, 43, 33, 54, 44
-fn add_pairs(runs: &mut Vec<Run>, homed: bool, kind: Kind) -> Result<(), AllocError> {
-    for core in 2..=4 {
-        for width in (core..=5).rev() {
-            add_laws(runs, homed, kind, width, core)?;
-        }
+fn add_pairs(runs: &mut Vec<Run>, homed: bool, kind: Kind) -> Result<(), AllocError>
+    ensures { OnOk result (vec_len runs.new ≡ vec_len runs.old + 9 * laws_count kind) }
+{
+    for (width, core) in PAIRS {
+        add_laws(runs, homed, kind, width, core)?;
     }
     Ok(())
 }
@@ -69,6 +87,7 @@ fn add_laws(
     core: u8,
 ) -> Result<(), AllocError>
     requires { Pair width core }
+    ensures { OnOk result (vec_len runs.new ≡ vec_len runs.old + laws_count kind) }
 {
     for laws in kind.laws() {
         runs.push(Run {

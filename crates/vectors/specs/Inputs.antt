@@ -1,0 +1,9 @@
+-- The octets of an input under a law: those of its file of that law.
+use Rattle.std.specs.Prelude.{ℕ, List}
+use Rattle.text.specs.declared.law.Law.{Law}
+use Rattle.text.specs.declared.law.Law.TheVariants.{Mu, A}
+use Rattle.vectors.specs.declared.inputs.Input.{Input}
+
+abbrev pub octets_under : Law → Input → List ℕ
+octets_under Mu input = input.mu.items
+octets_under A input = input.a.items

@@ -1,0 +1,4 @@
+pub mod Ends
+pub mod Inputs
+pub mod Laws
+pub mod Runs
