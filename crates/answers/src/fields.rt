@@ -1,5 +1,9 @@
 // A line's fields stand between single spaces, the parts of some fields between commas.
-use crate::forms::{Form, octets_in, samples_in};
+ghost use Rattle.std.specs.Prelude.{◌≡◌, ◌+◌, ◌↔◌, min, IsTrue, IsNone, IsOk, IfErr};
+ghost use Rattle.std.specs.Option.{option_copied};
+ghost use Rattle.answers.specs.Parts.{IsPart};
+
+use crate::forms::{Form, Listed};
 use crate::unanswered::Unanswered;
 use std::alloc::Global;
 
@@ -18,7 +22,10 @@ impl<'a> Parts<'a> {
         }
     }
 
-    pub fn part(&mut self) -> Option<&'a [u8]> {
+    pub fn part(&mut self) -> Option<&'a [u8]>
+        ensures mark { self.new.mark ≡ self.old.mark }
+        ensures part { IsPart self.old.mark (option_copied self.old.rest) (option_copied result) (option_copied self.new.rest) }
+    {
         let text = self.rest?;
         let mark = self.mark;
         match text.iter().position(|octet| *octet == mark) {
@@ -37,21 +44,26 @@ impl<'a> Parts<'a> {
         F::read(self.part()?)
     }
 
-    pub fn is_over(&self) -> bool {
+    pub fn is_over(&self) -> bool
+        ensures { IsTrue result ↔ IsNone self.now.rest }
+    {
         self.rest.is_none()
     }
 }
 
+// With the allocator, from which lists and answers get their memory
 #[derive(Clone, Copy)]
 pub struct Fields<'a> {
+    pub alloc: Global,
     parts: Parts<'a>,
     // of the field that was read last
     number: usize,
 }
 
 impl<'a> Fields<'a> {
-    pub fn of(line: &'a [u8]) -> Fields<'a> {
+    pub fn of(alloc: Global, line: &'a [u8]) -> Fields<'a> {
         Fields {
+            alloc,
             parts: Parts::of(line, b' '),
             number: 0,
         }
@@ -68,17 +80,15 @@ impl<'a> Fields<'a> {
         F::read(text).ok_or(Unanswered::Unreadable(self.number))
     }
 
-    pub fn octets(&mut self, alloc: Global) -> Result<Vec<u8>, Unanswered> {
+    pub fn list<L: Listed>(&mut self) -> Result<L, Unanswered> {
         let text = self.text();
-        octets_in(alloc, text)?.ok_or(Unanswered::Unreadable(self.number))
+        L::read(self.alloc, text)?.ok_or(Unanswered::Unreadable(self.number))
     }
 
-    pub fn samples(&mut self, alloc: Global) -> Result<Vec<i16>, Unanswered> {
-        let text = self.text();
-        samples_in(alloc, text)?.ok_or(Unanswered::Unreadable(self.number))
-    }
-
-    pub fn end(&self) -> Result<(), Unanswered> {
+    pub fn end(&self) -> Result<(), Unanswered>
+        ensures over { IsOk result ↔ IsNone self.now.parts.rest }
+        ensures next { IfErr result (λ why. why ≡ Unanswered.TooMany (min (self.now.number + 1) usize.MAX)) }
+    {
         if self.parts.is_over() {
             Ok(())
         } else {

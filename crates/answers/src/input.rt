@@ -3,7 +3,7 @@ use crate::unanswered::Unanswered;
 use std::alloc::{AllocError, Global};
 use std::io::{BufRead, Read};
 
-// In characters
+// In characters; a cast makes a u64 of it below, since u64 has no From<usize>
 const LONGEST: usize = 131072;
 
 #[derive(Drop)]

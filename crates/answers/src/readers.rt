@@ -10,7 +10,7 @@ impl Form for Reader {
     fn read(text: &[u8]) -> Option<Reader> {
         let mut parts = Parts::of(text, b',');
         let reader = Reader {
-            verdict: verdict_of(parts.next()?, parts.next()?)?,
+            verdict: verdict_in(&mut parts)?,
             line: parts.next::<Place>()?.0,
             column: parts.next()?,
             high: parts.next()?,
@@ -23,33 +23,46 @@ impl Form for Reader {
 }
 
 // A sound verdict has no place but 0.
-fn verdict_of(number: u8, place: Place) -> Option<Result<(), Fault>> {
-    let Place(place) = place;
-    let why = match number {
-        0 if place == 0 => return Some(Ok(())),
-        1 => Refusal::BadCharacter,
-        2 => Refusal::LineTooLong,
-        3 => Refusal::WrongRemainder,
-        4 => Refusal::MissingRemainder,
-        _ => return None,
-    };
-    Some(Err(Fault { why, place }))
+fn verdict_in(parts: &mut Parts<'_>) -> Option<Result<(), Fault>> {
+    let sound: Result<(), Refusal> = parts.next()?;
+    let Place(place) = parts.next()?;
+    match sound {
+        Ok(()) => (place == 0).then_some(Ok(())),
+        Err(why) => Some(Err(Fault { why, place })),
+    }
 }
 
-fn number_of(why: Refusal) -> u8 {
-    match why {
-        Refusal::BadCharacter => 1,
-        Refusal::LineTooLong => 2,
-        Refusal::WrongRemainder => 3,
-        Refusal::MissingRemainder => 4,
+// Both ways in the forms' traits: the refusals and the numbers are other crates' types, between which no From can stand here.
+impl Form for Result<(), Refusal> {
+    fn read(text: &[u8]) -> Option<Result<(), Refusal>> {
+        match text {
+            b"0" => Some(Ok(())),
+            b"1" => Some(Err(Refusal::BadCharacter)),
+            b"2" => Some(Err(Refusal::LineTooLong)),
+            b"3" => Some(Err(Refusal::WrongRemainder)),
+            b"4" => Some(Err(Refusal::MissingRemainder)),
+            _ => None,
+        }
+    }
+}
+
+impl Display for Shown<Result<(), Refusal>> {
+    fn fmt<W: fmt::Write>(&self, f: &mut Formatter<W>) -> fmt::Result {
+        f.write_str(match self.0 {
+            Ok(()) => "0",
+            Err(Refusal::BadCharacter) => "1",
+            Err(Refusal::LineTooLong) => "2",
+            Err(Refusal::WrongRemainder) => "3",
+            Err(Refusal::MissingRemainder) => "4",
+        })
     }
 }
 
 // The verdict's number and its place
-fn parts_of(verdict: Result<(), Fault>) -> (u8, Place) {
+fn parts_of(verdict: Result<(), Fault>) -> (Shown<Result<(), Refusal>>, Place) {
     match verdict {
-        Ok(()) => (0, Place(0)),
-        Err(fault) => (number_of(fault.why), Place(fault.place)),
+        Ok(()) => (Shown(Ok(())), Place(0)),
+        Err(fault) => (Shown(Err(fault.why)), Place(fault.place)),
     }
 }
 

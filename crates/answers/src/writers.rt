@@ -19,6 +19,7 @@ impl Form for Writer {
     }
 }
 
+// Both ways in the forms' traits, as a refusal (readers)
 impl Form for Stage {
     fn read(text: &[u8]) -> Option<Stage> {
         match text {
@@ -31,15 +32,21 @@ impl Form for Stage {
     }
 }
 
+impl Display for Shown<Stage> {
+    fn fmt<W: fmt::Write>(&self, f: &mut Formatter<W>) -> fmt::Result {
+        f.write_str(match self.0 {
+            Stage::Values => "0",
+            Stage::Closing => "1",
+            Stage::Remainder => "2",
+            Stage::Done => "3",
+        })
+    }
+}
+
 impl Display for Shown<Writer> {
     fn fmt<W: fmt::Write>(&self, f: &mut Formatter<W>) -> fmt::Result {
         let w = self.0;
-        let stage = match w.stage {
-            Stage::Values => 0,
-            Stage::Closing => 1,
-            Stage::Remainder => 2,
-            Stage::Done => 3,
-        };
+        let stage = Shown(w.stage);
         write!(f, "{stage},{},{},{}", w.column, w.value, w.sum)
     }
 }
