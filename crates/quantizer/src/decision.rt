@@ -46,7 +46,7 @@ fn count_reached(levels: &[u16], dln: u16) -> u8
     ensures { result ≡ reached levels.now dln }
 {
     let value = offset_of(dln);
-    // By `filter` and `count` a sample took 129 instructions more at width 5, more than the second codec takes (docs/PERFORMANCE.md).
+    // By `filter` and `count` a sample took 129 instructions more at width 5, a tenth of all that it takes (docs/PERFORMANCE.md).
     let mut n = 0;
     for level in levels {
         if offset_of(*level) <= value {

@@ -22,7 +22,7 @@ pub enum Refusal {
     Sample,
 }
 
-// Its number, for whoever prints or sends it
+// Its number, for whoever prints or sends it. By `as`, since its cases have their numbers by their places.
 impl From<Refusal> for u8 {
     ghost from_gives = { λ refusal number. number ≡ refusal_number refusal };
 
