@@ -2,7 +2,8 @@
 use Rattle.std.specs.Prelude.{ℕ, ℤ, ◌/◌, ◌%◌, ◌<◌, ◌≡◌, ◌≢◌, length, All, List, [], ◌∷◌, codes}
 use Rattle.std.specs.List.{flat_map}
 use Rattle.std.specs.Char.{digit_char}
-use Rattle.std.specs.Int.{w16, cast_signed, cast_unsigned, from_be_bytes, to_be_bytes}
+use Rattle.text.specs.Order as order
+use Rattle.text.specs.declared.samples.Order.TheVariants.{HighFirst}
 
 -- the two digits of an octet
 abbrev pub octet_text : ℕ → List ℕ
@@ -23,8 +24,8 @@ IsNoSamplesText text = (octets : List ℕ) → All (λ octet. octet < 256) octet
 
 -- a sample's two octets, the more significant one first, in two's complement
 abbrev pub sample_octets : ℤ → List ℕ
-sample_octets sample = to_be_bytes w16 (cast_unsigned w16 sample)
+sample_octets sample = order.pair_of HighFirst sample
 
 -- the sample of two octets
 abbrev pub sample_of : List ℕ → ℤ
-sample_of pair = cast_signed w16 (from_be_bytes w16 pair)
+sample_of pair = order.sample_of HighFirst pair
