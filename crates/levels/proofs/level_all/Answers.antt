@@ -14,9 +14,8 @@ level-requires g c =
 
 pub loop-i-preserved : goal.loop-i-preserved
 loop-i-preserved g c =
-    let sample = c.index-samples-i in
-    filled_more _ _ _ 0 c.loop-i.invariant c.loop-i-test.true
-    (rw (c.level.ensures, get_or-map (g.E.End.level_is c.args.end) c.args.samples.now c.loop-i.i sample.result 0 c.loop-i-test.true, ← sample.is))
+    let at = get_or-map (g.E.End.level_is c.args.end) c.args.samples.now c.loop-i.i c.index-samples-i.result 0 c.loop-i-test.true in
+    filled_more _ _ _ 0 c.loop-i.invariant c.loop-i-test.true (grind (arith, at))
 
 pub returns : goal.returns
 returns g c = record { out = rw (length-map _ _) (filled_all _ _ _ c.loop-i.invariant c.loop-i-test.false) }
