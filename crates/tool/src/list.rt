@@ -1,5 +1,5 @@
 // drop -list FILE: a width for each frame, one digit each, with spaces, tabs and line ends between.
-ghost use Rattle.std.specs.Prelude.{◌<◌, IfOk, IfSome, vec_len};
+ghost use Rattle.std.specs.Prelude.{◌<◌, IfOk, IfSome, length};
 ghost use Rattle.tool.specs.Widths.{AreWidths, IsWidth};
 
 use crate::stop::{ListFault, Stop};
@@ -7,54 +7,63 @@ use command_line::cutting::is_width;
 use streams::files::opened;
 use streams::reading::read_full;
 
-// A list that fills it is too long, since more of it might follow.
-const ROOM: usize = 65536;
+// The octets of a task's widths, and of the text before them. A list that fills it is too long, since more of it might follow.
+pub const LIST_ROOM: usize = 65536;
 
-// The widths of the file of the word there: one at least
-pub fn read_list(rt: &HostRuntime, place: usize) -> Result<Vec<u8>, Stop>
-    ensures widths { IfOk result (λ widths. AreWidths widths.items) }
-    ensures some { IfOk result (λ widths. 0 < vec_len widths) }
+// The widths of the file of the word there: one at least. The room has its text first, and then them.
+pub fn read_list<'a>(
+    rt: &HostRuntime,
+    place: usize,
+    room: &'a mut [u8; LIST_ROOM],
+) -> Result<&'a [u8], Stop>
+    ensures widths { IfOk result (λ widths. AreWidths widths.now) }
+    ensures some { IfOk result (λ widths. 0 < length widths.now) }
 {
     let stream = opened(rt, place, "the list")?;
-    let mut text = vec![in rt.alloc(); 0; ROOM]?;
-    let count = read_full(rt, &stream, text.as_mut_slice())?;
-    if count == ROOM {
+    let count = read_full(rt, &stream, room)?;
+    if count == LIST_ROOM {
         return Err(Stop::List(place, ListFault::TooLong));
     }
-    text.truncate(count);
-    widths_in(rt, place, text.as_slice())
+    widths_in(place, &mut room[..count])
 }
 
-fn widths_in(rt: &HostRuntime, place: usize, text: &[u8]) -> Result<Vec<u8>, Stop>
-    ensures widths { IfOk result (λ widths. AreWidths widths.items) }
-    ensures some { IfOk result (λ widths. 0 < vec_len widths) }
+// In place, at the text's start: a width stands no later than its digit did. So no iterator goes over the text, which it would lend.
+fn widths_in(place: usize, text: &mut [u8]) -> Result<&[u8], Stop>
+    ensures widths { IfOk result (λ widths. AreWidths widths.now) }
+    ensures some { IfOk result (λ widths. 0 < length widths.now) }
 {
-    let mut widths = Vec::new(rt.alloc());
-    for (i, line) in text.split(|octet| *octet == b'\n').enumerate() {
-        for word in line.split(|octet| matches!(octet, b' ' | b'\t' | b'\r')) {
-            if word.is_empty() {
-                continue;
-            }
-            match width_in(word) {
-                Some(width) => widths.push(width)?,
-                None => return Err(Stop::List(place, ListFault::Line(i.saturating_add(1)))),
+    let mut count = 0;
+    let mut line = 1;
+    let mut apart = true;
+    for i in 0..text.len() {
+        let octet = text[i];
+        let between = matches!(octet, b' ' | b'\t' | b'\r' | b'\n');
+        if !between {
+            match width_in(octet) {
+                // Only a word's first octet stands apart.
+                Some(width) if apart => {
+                    text[count] = width;
+                    count += 1;
+                }
+                _ => return Err(Stop::List(place, ListFault::Line(line))),
             }
         }
+        apart = between;
+        if octet == b'\n' {
+            line = line.saturating_add(1);
+        }
     }
-    if widths.is_empty() {
+    if count == 0 {
         return Err(Stop::List(place, ListFault::NoWidth));
     }
-    Ok(widths)
+    Ok(&text[..count])
 }
 
-// Of a word that is one digit
-fn width_in(word: &[u8]) -> Option<u8>
+// Of a digit
+fn width_in(octet: u8) -> Option<u8>
     ensures { IfSome result IsWidth }
 {
-    let [octet] = word else {
-        return None;
-    };
-    let digit = char::from(*octet).to_digit(10)?;
+    let digit = char::from(octet).to_digit(10)?;
     let width = u8::try_from(digit).ok()?;
     is_width(width).then_some(width)
 }
@@ -67,20 +76,22 @@ mod tests {
     use command_line::Command;
     use command_line::cutting::{Cut, Widths};
 
-    // Each function of this crate that can run out of memory, where there is some
     #[test]
     fn widths_are_read_and_kept(rt: HostRuntime) {
-        let listed = widths_in(&rt, 0, b"3 2\n5\t4");
-        assert!(rt; matches!(&listed, Ok(widths) if widths.as_slice() == [3, 2, 5, 4].as_slice()));
-        let wrong = widths_in(&rt, 0, b"3\n23");
+        let mut text = *b"3 2\n5\t4";
+        let listed = widths_in(0, &mut text);
+        assert!(rt; matches!(listed, Ok(widths) if widths == [3, 2, 5, 4].as_slice()));
+        let mut text = *b"3\n23";
+        let wrong = widths_in(0, &mut text);
         assert!(rt; matches!(wrong, Err(Stop::List(0, ListFault::Line(2)))));
         let cut = Cut {
             most: true,
             widths: Widths::One(3),
         };
-        let work = Work::of(&rt, Command::Drop(cut));
+        let mut room = [0; LIST_ROOM];
+        let work = Work::of(&rt, Command::Drop(cut), &mut room);
         assert!(rt;
-            matches!(&work, Ok(Work::Drop { most: true, widths }) if widths.as_slice() == [3].as_slice())
+            matches!(work, Ok(Work::Drop { most: true, widths }) if widths == [3].as_slice())
         );
     }
 }

@@ -1,5 +1,5 @@
 // What a command does with each piece of its input, and what it makes of one.
-ghost use Rattle.std.specs.Prelude.{◌≡◌, IfOk, take};
+ghost use Rattle.std.specs.Prelude.{◌≡◌, Err, IfErr, IfOk, take};
 ghost use Rattle.replies.specs.Reply.{number_of, reported};
 ghost use Rattle.reset.specs.Reset.{reset_state};
 ghost use Rattle.tool.specs.Beginning.{first_core};
@@ -8,7 +8,7 @@ use crate::decoding::decoded;
 use crate::dropping::{dropped, width_of};
 use crate::encoding::encoded;
 use crate::inspecting::inspected;
-use crate::list::read_list;
+use crate::list::{LIST_ROOM, read_list};
 use crate::stop::{Place, Stop};
 use arrayvec::ArrayVec;
 use command_line::Command;
@@ -24,11 +24,11 @@ use state::answer::Answer;
 // Octets of the longest piece: linear samples have two each, and a frame or a line is shorter.
 pub const ROOM: usize = 2 * MOST_SAMPLES;
 
-// The command, with the widths that it asks for; a list is gone through over and over.
-#[derive(Drop)]
-pub enum Work {
+// The command, with the widths that it asks for, which lie in the task's room; a list is gone through over and over.
+#[derive(Clone, Copy)]
+pub enum Work<'a> {
     Encode(Coding),
-    Drop { most: bool, widths: Vec<u8> },
+    Drop { most: bool, widths: &'a [u8] },
     Decode(Speech),
     Inspect,
 }
@@ -38,6 +38,26 @@ pub enum Work {
 pub struct Made {
     pub octets: ArrayVec<u8, ROOM>,
     pub state: State,
+}
+
+// Why a piece is refused, and the state that the refused call hands back; of a call that has none, the one before it
+#[derive(Clone, Copy)]
+pub struct Refused {
+    pub refusal: Refusal,
+    pub state: State,
+}
+
+impl Refused {
+    // What was done, or the refusal with the state that comes back
+    pub fn or_done<T: Copy>(answer: Answer<T>) -> Result<T, Refused>
+        ensures { IfErr result (λ refused. (answer.done ≡ Err refused.refusal) × (refused.state ≡ answer.state)) }
+    {
+        let Answer { state, done } = answer;
+        match done {
+            Ok(done) => Ok(done),
+            Err(refusal) => Err(Refused { refusal, state }),
+        }
+    }
 }
 
 impl Made {
@@ -53,16 +73,23 @@ impl Made {
     }
 }
 
-impl Work {
-    pub fn of(rt: &HostRuntime, command: Command) -> Result<Work, Stop> {
+impl<'a> Work<'a> {
+    pub fn of(
+        rt: &HostRuntime,
+        command: Command,
+        room: &'a mut [u8; LIST_ROOM],
+    ) -> Result<Work<'a>, Stop> {
         match command {
             Command::Encode(coding) => Ok(Work::Encode(coding)),
             Command::Decode(speech) => Ok(Work::Decode(speech)),
             Command::Inspect => Ok(Work::Inspect),
             Command::Drop(cut) => {
                 let widths = match cut.widths {
-                    Widths::One(width) => vec![in rt.alloc(); width]?,
-                    Widths::Listed(place) => read_list(rt, place)?,
+                    Widths::One(width) => {
+                        room[0] = width;
+                        &room[..1]
+                    }
+                    Widths::Listed(place) => read_list(rt, place, room)?,
                 };
                 Ok(Work::Drop {
                     most: cut.most,
@@ -84,18 +111,15 @@ impl Work {
         started.state
     }
 
-    pub fn make(&self, place: Place, state: State, piece: &[u8]) -> Result<Made, Refusal> {
-        match self {
+    pub fn make(&self, place: Place, state: State, piece: &[u8]) -> Result<Made, Refused> {
+        let made = match self {
             Work::Encode(coding) => encoded(*coding, state, piece),
             Work::Drop { most, widths } => {
-                dropped(
-                    width_of(*most, widths.as_slice(), place.frame, piece),
-                    state,
-                    piece,
-                )
+                dropped(width_of(*most, widths, place.frame, piece), state, piece)
             }
-            Work::Decode(speech) => decoded(*speech, place.frame, state, piece),
+            Work::Decode(speech) => return decoded(*speech, place.frame, state, piece),
             Work::Inspect => inspected(place.frame, state, piece),
-        }
+        };
+        made.map_err(|refusal| Refused { refusal, state })
     }
 }

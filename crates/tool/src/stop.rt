@@ -6,7 +6,6 @@ use command_line::program::Program;
 use command_line::quoting::say_quoting;
 use command_line::status::Stopping;
 use replies::Refusal;
-use std::alloc::{AllocError, AllocFailed};
 use std::fmt;
 use std::fmt::{Display, Formatter};
 use streams::failure::Failure;
@@ -27,7 +26,6 @@ impl Display for Place {
 #[derive(Clone, Copy)]
 pub enum Stop {
     Stream(Failure),
-    Memory,
     // The list of the word there
     List(usize, ListFault),
     Piece(Place, Fault),
@@ -56,18 +54,6 @@ pub enum Fault {
 impl From<Failure> for Stop {
     fn from(failure: Failure) -> Stop {
         Stop::Stream(failure)
-    }
-}
-
-impl From<AllocError> for Stop {
-    fn from(_error: AllocError) -> Stop {
-        Stop::Memory
-    }
-}
-
-impl<T: Drop> From<AllocFailed<T>> for Stop {
-    fn from(_error: AllocFailed<T>) -> Stop {
-        Stop::Memory
     }
 }
 
@@ -118,9 +104,6 @@ impl Stopping for Stop {
         let program = Program::Parchfennel;
         match self {
             Stop::Stream(failure) => failure.say(rt, program),
-            Stop::Memory => {
-                let _ = eprintln!(rt; "{program}: no memory is left");
-            }
             Stop::List(place, fault) => {
                 say_quoting(rt, format_args!("{program}: list "), &[place], fault);
             }

@@ -1,8 +1,12 @@
 // The one loop: a piece of the input is read, something is made of it, and that is written.
+ghost use Rattle.std.specs.Prelude.{◌≡◌};
+ghost use Rattle.frame.specs.Header.{header_of};
+
 use crate::encoding::first_off_scale;
 use crate::files::Files;
 use crate::inspecting::{HEADING, Totals};
-use crate::making::Work;
+use crate::list::LIST_ROOM;
+use crate::making::{Refused, Work};
 use crate::states;
 use crate::states::Row;
 use crate::stop::{Fault, Place, Stop};
@@ -16,9 +20,9 @@ use streams::writing::{write_all, write_line};
 
 // A task made ready: what becomes of each piece, the files, and whether the states are said
 #[derive(Drop)]
-struct Job {
+struct Job<'a> {
     verbose: bool,
-    work: Work,
+    work: Work<'a>,
     files: Files,
 }
 
@@ -31,7 +35,9 @@ struct Turn {
 }
 
 pub fn perform(rt: &HostRuntime, task: Task) -> Status {
-    match Job::begin(rt, task) {
+    // Not on the heap: no task takes memory.
+    let mut room = [0; LIST_ROOM];
+    match Job::begin(rt, task, &mut room) {
         Ok(job) => {
             let ran = job.run(rt);
             ran.and(Status::of(rt, job.files.settle(rt).map_err(Stop::from)))
@@ -40,9 +46,9 @@ pub fn perform(rt: &HostRuntime, task: Task) -> Status {
     }
 }
 
-impl Job {
-    fn begin(rt: &HostRuntime, task: Task) -> Result<Job, Stop> {
-        let work = Work::of(rt, task.command)?;
+impl<'a> Job<'a> {
+    fn begin(rt: &HostRuntime, task: Task, room: &'a mut [u8; LIST_ROOM]) -> Result<Job<'a>, Stop> {
+        let work = Work::of(rt, task.command, room)?;
         let files = Files::open(rt, task)?;
         Ok(Job {
             verbose: task.verbose,
@@ -90,7 +96,7 @@ impl Job {
         let made = self
             .work
             .make(place, state, octets)
-            .map_err(|refusal| turn.refused(refusal, octets))?;
+            .map_err(|refused| turn.refused(refused, octets))?;
         // Not before the call, since no frame that is refused is filled up
         if 0 < piece.added {
             say_filled(rt, place, piece.added);
@@ -125,15 +131,22 @@ fn say_filled(rt: &HostRuntime, place: Place, samples: usize) {
     );
 }
 
+// What was refused, with what the reply's row does not say. The due number is that of the state which the refused call hands back.
+fn fault_of(octet: u64, refused: Refused, piece: &[u8]) -> Fault
+    ensures { refused.refusal ≡ Refusal.Number → result ≡ Fault.Number (header_of piece.now).number refused.state.number }
+{
+    match refused.refusal {
+        Refusal::Number => Fault::Number(read_header(piece).number, refused.state.number),
+        Refusal::Sample => {
+            first_off_scale(octet, piece).unwrap_or(Fault::Refused(Refusal::Sample))
+        }
+        refusal => Fault::Refused(refusal),
+    }
+}
+
 impl Turn {
-    // What was refused, with what the reply's row does not say
-    fn refused(self, refusal: Refusal, piece: &[u8]) -> Stop {
-        let fault = match refusal {
-            Refusal::Number => Some(Fault::Number(read_header(piece).number, self.state.number)),
-            Refusal::Sample => first_off_scale(self.place.octet, piece),
-            _ => None,
-        };
-        Stop::Piece(self.place, fault.unwrap_or(Fault::Refused(refusal)))
+    fn refused(self, refused: Refused, piece: &[u8]) -> Stop {
+        Stop::Piece(self.place, fault_of(self.place.octet, refused, piece))
     }
 
     // Behind a piece. Encode's has no header, and its totals nobody asks for.

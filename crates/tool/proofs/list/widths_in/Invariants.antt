@@ -1,9 +1,7 @@
--- `tool::list::widths_in`: what is in it so far are widths.
+-- `tool::list::widths_in`: what stands at the text's start so far are widths, no more than octets were looked at.
+use Rattle.std.proofs.Common.{◌≤◌, take}
 use Rattle.tool.specs.Widths.{AreWidths}
 use Rattle.tool.proofs.list.widths_in.Given as goal
 
-abbrev pub invariant-loop-word : goal.invariant-loop-word
-invariant-loop-word l = AreWidths l.widths.items
-
 abbrev pub invariant-loop-i : goal.invariant-loop-i
-invariant-loop-i l = AreWidths l.widths.items
+invariant-loop-i l = (l.count ≤ l.i) × AreWidths (take l.count l.text)
