@@ -5,7 +5,6 @@ ghost use Rattle.answers.specs.Parts.{IsPart};
 
 use crate::forms::{Form, Listed};
 use crate::unanswered::Unanswered;
-use std::alloc::Global;
 
 // What stands between single marks
 #[derive(Clone, Copy)]
@@ -51,19 +50,16 @@ impl<'a> Parts<'a> {
     }
 }
 
-// With the allocator, from which lists and answers get their memory
 #[derive(Clone, Copy)]
 pub struct Fields<'a> {
-    pub alloc: Global,
     parts: Parts<'a>,
     // of the field that was read last
     number: usize,
 }
 
 impl<'a> Fields<'a> {
-    pub fn of(alloc: Global, line: &'a [u8]) -> Fields<'a> {
+    pub fn of(line: &'a [u8]) -> Fields<'a> {
         Fields {
-            alloc,
             parts: Parts::of(line, b' '),
             number: 0,
         }
@@ -80,9 +76,9 @@ impl<'a> Fields<'a> {
         F::read(text).ok_or(Unanswered::Unreadable(self.number))
     }
 
-    pub fn list<L: Listed>(&mut self) -> Result<L, Unanswered> {
+    pub fn list<L: Listed>(&mut self, list: &mut L) -> Result<(), Unanswered> {
         let text = self.text();
-        L::read(self.alloc, text)?.ok_or(Unanswered::Unreadable(self.number))
+        L::read(text, list)?.ok_or(Unanswered::Unreadable(self.number))
     }
 
     pub fn end(&self) -> Result<(), Unanswered>

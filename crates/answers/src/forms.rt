@@ -1,11 +1,11 @@
 // The forms of fields and of their parts. Each value has one form.
-ghost use Rattle.std.specs.Prelude.{◌≡◌, ◌≢◌, ◌%◌, ◌<◌, ℕ, List, length, map, IfOk, IfSome, IfNone};
+ghost use Rattle.std.specs.Prelude.{◌≡◌, ◌≢◌, ◌%◌, ◌<◌, ℕ, List, length, map, IfOk, OnOk, IfSome, IfNone};
 ghost use Rattle.std.specs.List.{flat_map};
 ghost use Rattle.std.specs.Char.{digit_char};
 ghost use Rattle.answers.specs.Forms.{IsNoOctetsText, IsNoSamplesText, octet_text, octets_text, sample_octets, sample_of};
 
+use arrayvec::{ArrayVec, CapacityError};
 use replies::is_law;
-use std::alloc::{AllocError, Global};
 use std::str::{FromStr, from_utf8};
 
 // What is written in a form is read as a value of the type.
@@ -31,13 +31,19 @@ impl Form for u32 {
     }
 }
 
-// What is written in a form of any length, for which there may be no memory
-pub trait Listed: Sized {
+// As many as a line can have. A call with lists is not inlined, so that the stack holds the lists of one call alone.
+pub type Octets = ArrayVec<u8, 65536>;
+
+pub type Samples = ArrayVec<i16, 32768>;
+
+// What is written in a form of any length, for which there may be no room. It is put into the list in place of what was there, whole where
+// that is answered.
+pub trait Listed {
     // How it is written
     ghost text_of: { Self → List ℕ };
 
-    fn read(alloc: Global, text: &[u8]) -> Result<Option<Self>, AllocError>
-        ensures { IfOk result (λ read. IfSome read (λ list. text.now ≡ text_of list)) };
+    fn read(text: &[u8], list: &mut Self) -> Result<Option<()>, CapacityError>
+        ensures { IfOk result (λ read. IfSome read (λ _. text.now ≡ text_of list.new)) };
 }
 
 // Decimal digits with no zero before them
@@ -90,66 +96,73 @@ impl Form for Place {
 }
 
 // Two hexadecimal digits for each octet, or - for none
-impl Listed for Vec<u8> {
+impl Listed for Octets {
     ghost text_of = { λ octets. octets_text octets.items };
 
-    fn read(alloc: Global, text: &[u8]) -> Result<Option<Vec<u8>>, AllocError>
-        ensures list { IfOk result (λ read. IfSome read (λ octets. text.now ≡ octets_text octets.items)) }
+    fn read(text: &[u8], list: &mut Octets) -> Result<Option<()>, CapacityError>
+        ensures list { IfOk result (λ read. IfSome read (λ _. text.now ≡ octets_text list.new.items)) }
         ensures none { IfOk result (λ read. IfNone read (IsNoOctetsText text.now)) }
     {
+        list.clear();
         if matches!(text, b"-") {
-            return Ok(Some(Vec::new(alloc)));
+            return Ok(Some(()));
         }
         let (pairs, rest) = text.as_chunks();
         if pairs.is_empty() || !rest.is_empty() {
             return Ok(None);
         }
-        let mut octets = Vec::with_capacity(alloc, pairs.len())?;
+        if list.capacity() < pairs.len() {
+            return Err(CapacityError::new(()));
+        }
         for pair in pairs {
             match octet_of(*pair) {
-                Some(octet) => octets.push(octet)?,
+                Some(octet) => list.push(octet),
                 None => return Ok(None),
             }
         }
-        Ok(Some(octets))
+        Ok(Some(()))
     }
 }
 
 // Two octets for each sample, the more significant one first
-impl Listed for Vec<i16> {
+impl Listed for Samples {
     ghost text_of = { λ samples. octets_text (flat_map sample_octets samples.items) };
 
-    fn read(alloc: Global, text: &[u8]) -> Result<Option<Vec<i16>>, AllocError>
-        ensures list { IfOk result (λ read. IfSome read (λ samples. text.now ≡ octets_text (flat_map sample_octets samples.items))) }
+    fn read(text: &[u8], list: &mut Samples) -> Result<Option<()>, CapacityError>
+        ensures list { IfOk result (λ read. IfSome read (λ _. text.now ≡ octets_text (flat_map sample_octets list.new.items))) }
         ensures none { IfOk result (λ read. IfNone read (IsNoSamplesText text.now)) }
     {
-        let octets: Option<Vec<u8>> = Listed::read(alloc, text)?;
-        match octets {
-            Some(octets) => samples_in(alloc, &octets),
+        let mut octets = Octets::new();
+        match Listed::read(text, &mut octets)? {
+            Some(()) => samples_in(&octets, list),
             None => Ok(None),
         }
     }
 }
 
-fn samples_in(alloc: Global, octets: &[u8]) -> Result<Option<Vec<i16>>, AllocError>
-    ensures samples { IfOk result (λ read. IfSome read (λ samples. octets.now ≡ flat_map sample_octets samples.items)) }
+fn samples_in(octets: &[u8], list: &mut Samples) -> Result<Option<()>, CapacityError>
+    ensures samples { IfOk result (λ read. IfSome read (λ _. octets.now ≡ flat_map sample_octets list.new.items)) }
     ensures none { IfOk result (λ read. IfNone read (length octets.now % 2 ≡ 1)) }
 {
     let (pairs, rest) = octets.as_chunks();
     if !rest.is_empty() {
         return Ok(None);
     }
-    let samples = samples_of(alloc, pairs)?;
-    Ok(Some(samples))
+    samples_of(pairs, list)?;
+    Ok(Some(()))
 }
 
-fn samples_of(alloc: Global, pairs: &[[u8; 2]]) -> Result<Vec<i16>, AllocError>
-    ensures { IfOk result (λ samples. samples.items ≡ map sample_of pairs.now) }
+fn samples_of(pairs: &[[u8; 2]], list: &mut Samples) -> Result<(), CapacityError>
+    ensures { OnOk result (list.new.items ≡ map sample_of pairs.now) }
 {
-    pairs
-        .iter()
-        .map(|pair| i16::from_be_bytes(*pair))
-        .collect(alloc)
+    list.clear();
+    if list.capacity() < pairs.len() {
+        return Err(CapacityError::new(()));
+    }
+    for pair in pairs {
+        list.push(i16::from_be_bytes(*pair));
+    }
+    Ok(())
 }
 
 fn octet_of(pair: [u8; 2]) -> Option<u8>
@@ -181,16 +194,15 @@ mod tests {
     // docs/ANSWERS.md: two digits for each octet, four for each sample, in two's complement, and - where there are none
     #[test]
     fn lists_are_read(rt: HostRuntime) -> Result<(), Fail> {
-        let octets: Option<Vec<u8>> = Listed::read(rt.alloc(), b"00ff")?;
-        let octets = octets.ok_or("octets")?;
+        let mut octets = Octets::new();
+        Octets::read(b"00ff", &mut octets)?.ok_or("octets")?;
         assert_eq!(rt; octets.as_slice(), [0, 255].as_slice());
-        let none: Option<Vec<u8>> = Listed::read(rt.alloc(), b"-")?;
-        assert!(rt; none.ok_or("none")?.is_empty());
-        let samples: Option<Vec<i16>> = Listed::read(rt.alloc(), b"fff01fff")?;
-        let samples = samples.ok_or("samples")?;
+        Octets::read(b"-", &mut octets)?.ok_or("none")?;
+        assert!(rt; octets.is_empty());
+        let mut samples = Samples::new();
+        Samples::read(b"fff01fff", &mut samples)?.ok_or("samples")?;
         assert_eq!(rt; samples.as_slice(), [-16, 8191].as_slice());
-        let half: Option<Vec<i16>> = Listed::read(rt.alloc(), b"0f")?;
-        assert!(rt; half.is_none());
+        assert!(rt; Samples::read(b"0f", &mut samples)?.is_none());
         Ok(())
     }
 }

@@ -1,50 +1,100 @@
-// The lines of the input, each without its end. What a line may have at most is read at once, and no more is held.
-use crate::unanswered::Unanswered;
-use std::alloc::{AllocError, Global};
-use std::io::{BufRead, Read};
+// The lines of the input, each without its end, in a window that holds the longest of them and its end. The window is filled before a line
+// in it is given, and all lines in it are given before more is read: whoever writes a window of lines can leave the answers for later.
+ghost use Rattle.std.specs.Prelude.{◌≤◌, length};
 
-// In characters; a cast makes a u64 of it below, since u64 has no From<usize>
+use crate::unanswered::Unanswered;
+use std::io::Read;
+
+// In characters
 const LONGEST: usize = 131072;
 
+pub const ROOM: usize = LONGEST + 1;
+
 #[derive(Drop)]
-pub struct Lines<R> {
+pub struct Lines<'a, R> {
     input: R,
-    line: Vec<u8>,
-    ended: bool,
+    window: &'a mut [u8],
+    // What is held and not yet given stands from index `from` to index `to`
+    from: usize,
+    to: usize,
+    // Whether there may be more to read
+    more: bool,
+    ghost held: { (from ≤ to) × (to ≤ length window.now) },
 }
 
-impl<R: BufRead> Lines<R> {
-    pub fn of(alloc: Global, input: R) -> Result<Lines<R>, AllocError>
-    where
-        R: Drop,
-    {
-        Ok(Lines {
+impl<'a, R: Read> Lines<'a, R> {
+    pub fn of(input: R, window: &'a mut [u8; ROOM]) -> Lines<'a, R> {
+        Lines {
             input,
-            line: Vec::with_capacity(alloc, LONGEST + 1)?,
-            ended: false,
-        })
+            window,
+            from: 0,
+            to: 0,
+            more: true,
+        }
     }
 
     // Behind the last line's end there is no line. Where a read fails, what was read stands as if the input had ended.
     pub fn next(&mut self) -> Option<Result<&[u8], Unanswered>> {
-        self.line.clear();
-        if self.ended {
+        let (end, long) = self.end_of_line();
+        let from = self.from;
+        let is_line = from < end || end < self.to || long;
+        self.from = self.to.min(end + 1);
+        if !is_line {
             return None;
         }
-        let mut start = self.input.by_ref().take(LONGEST as u64 + 1);
-        self.ended = start.read_until(b'\n', &mut self.line).is_err();
-        if self.line.last() == Some(&b'\n') {
-            self.line.pop();
-            return Some(Ok(&self.line));
-        }
-        if LONGEST < self.line.len() {
-            self.ended = self.ended || self.input.skip_until(b'\n').is_err();
+        if long {
             return Some(Err(Unanswered::TooLong));
         }
-        self.ended = true;
-        if self.line.is_empty() {
-            return None;
-        }
-        Some(Ok(&self.line))
+        let window = &*self.window;
+        Some(Ok(&window[from..end]))
     }
+
+    // The index of the first line's end, or of the end of what is held where the input has ended, and whether the line began before the
+    // window. A proved loop has to end, and nothing says that a line does: no run reaches the last turn.
+    fn end_of_line(&mut self) -> (usize, bool)
+        ensures { (self.new.from ≤ result.0) × (result.0 ≤ self.new.to) }
+    {
+        let mut long = false;
+        for _ in 1..u64::MAX {
+            let (from, to) = (self.from, self.to);
+            let window = &*self.window;
+            let held = &window[from..to];
+            match held.iter().position(|octet| *octet == b'\n') {
+                Some(n) => return (from + n, long),
+                None if !self.more => break,
+                None => long = self.refill() || long,
+            }
+        }
+        (self.to, long)
+    }
+
+    // More of the input behind what is held. A full window holds no line's end, so its line is too long and is let go; answers whether it was.
+    fn refill(&mut self) -> bool {
+        let (from, to) = (self.from, self.to);
+        let held = to - from;
+        if held == self.window.len() {
+            self.from = to;
+            return true;
+        }
+        self.window.copy_within(from..to, 0);
+        let count = read_full(&mut self.input, &mut self.window[held..]);
+        self.from = 0;
+        self.to = held + count;
+        self.more = self.to == self.window.len();
+        false
+    }
+}
+
+// Fills the part, or as much of it as there is before the input ends or a read fails, and counts that
+fn read_full<R: Read>(input: &mut R, part: &mut [u8]) -> usize
+    ensures { result ≤ length part.new }
+{
+    let mut done = 0;
+    while done < part.len() {
+        match input.read(&mut part[done..]) {
+            Ok(0) | Err(_) => break,
+            Ok(more) => done += more,
+        }
+    }
+    done
 }

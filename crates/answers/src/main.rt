@@ -14,28 +14,28 @@ mod unanswered;
 mod writers;
 
 use answering::answer;
-use input::Lines;
+use input::{Lines, ROOM};
+use shown::Said;
 use std::io;
-use std::io::{BufReader, BufWriter, Write};
+use std::io::Write;
 use unanswered::Unanswered;
 
-// Where there is no memory, that is told and the status is 1. What cannot be written is left out, and the status is 0.
-fn main(rt: HostRuntime) -> io::Result<()> {
-    let mut lines = Lines::of(rt.alloc(), BufReader::new(rt.alloc(), rt.stdin())?)?;
-    let mut out = BufWriter::new(rt.alloc(), rt.stdout())?;
+// What cannot be written is left out, and the status is 0.
+fn main(rt: HostRuntime) {
+    let mut window = [0; ROOM];
+    let mut lines = Lines::of(rt.stdin(), &mut window);
+    let mut said = Said::new();
     // A proved loop has to end, and nothing says that the input does: no run reaches the last number.
     for number in 1..u64::MAX {
+        said.clear();
+        let _ = said.write_all(b" = ");
         let (line, answer) = match lines.next() {
             None => break,
-            Some(Ok(line)) => (line, answer(rt.alloc(), line)),
+            Some(Ok(line)) => (line, answer(line, &mut said)),
             Some(Err(why)) => (b"".as_slice(), Err(why)),
         };
-        if let Err(Unanswered::OutOfMemory(error)) = answer {
-            return Err(io::Error::from(error));
-        }
-        let _ = say(&mut out, number, line, answer);
+        let _ = say(&mut rt.stdout(), number, line, answer, &mut said);
     }
-    Ok(())
 }
 
 // The line as it is where it asks nothing, or with its answer, or in its place a comment that says why it has none
@@ -43,15 +43,20 @@ fn say<W: Write>(
     out: &mut W,
     number: u64,
     line: &[u8],
-    answer: Result<Option<String>, Unanswered>,
+    answer: Result<bool, Unanswered>,
+    said: &mut Said,
 ) -> io::Result<()> {
     match answer {
-        Ok(None) => out.write_all(line)?,
-        Ok(Some(answer)) => {
+        Ok(true) => out.write_all(line)?,
+        Ok(false) => {
             out.write_all(line)?;
-            write!(out, " = {answer}")?;
+            said.clear();
         }
-        Err(why) => write!(out, "# line {number}: {why}")?,
+        Err(why) => {
+            said.clear();
+            write!(said, "# line {number}: {why}")?;
+        }
     }
-    out.write_all(b"\n")
+    said.write_all(b"\n")?;
+    out.write_all(said)
 }

@@ -1,8 +1,12 @@
 // What is said in an answer, in the forms in which it is read.
 use crate::forms::Place;
+use arrayvec::ArrayVec;
 use std::fmt;
 use std::fmt::{Display, Formatter};
 use text::hexadecimal::Hexadecimal;
+
+// Room for an answer: a list as long as a line, and the numbers beside it
+pub type Said = ArrayVec<u8, 131584>;
 
 #[derive(Clone, Copy)]
 pub struct Shown<T>(pub T);

@@ -1,7 +1,7 @@
 // Why a line has no answer.
-use std::alloc::AllocError;
-use std::fmt;
+use arrayvec::CapacityError;
 use std::fmt::{Display, Formatter};
+use std::{fmt, io};
 
 // Fields are counted from 1, which is the call's word.
 #[derive(Clone, Copy)]
@@ -10,12 +10,18 @@ pub enum Unanswered {
     Unreadable(usize),
     TooMany(usize),
     TooLong,
-    OutOfMemory(AllocError),
 }
 
-impl From<AllocError> for Unanswered {
-    fn from(error: AllocError) -> Unanswered {
-        Unanswered::OutOfMemory(error)
+// What is listed in a line that is not too long fits its room, and so does the answer.
+impl From<CapacityError> for Unanswered {
+    fn from(_: CapacityError) -> Unanswered {
+        Unanswered::TooLong
+    }
+}
+
+impl From<io::Error> for Unanswered {
+    fn from(_: io::Error) -> Unanswered {
+        Unanswered::TooLong
     }
 }
 
@@ -26,7 +32,6 @@ impl Display for Unanswered {
             Unanswered::Unreadable(field) => write!(f, "cannot be read: field {field}"),
             Unanswered::TooMany(field) => write!(f, "too many: field {field}"),
             Unanswered::TooLong => f.write_str("too long"),
-            Unanswered::OutOfMemory(error) => write!(f, "{error}"),
         }
     }
 }

@@ -8,7 +8,7 @@ use Rattle.answers.proofs.forms.samples_in.Goals as goal
 pub returns-clause-samples : goal.returns-clause-samples
 returns-clause-samples c =
     let octets = c.args.octets.now in
-    let read : c.in_ok-samples.samples.items ≡ map sample_of c.as_chunks.result.0.now = search rules in
+    let read : c.samples_of.new.list.items ≡ map sample_of c.as_chunks.result.0.now = search rules in
     let even : length octets ≡ 2 * (length octets / 2) = grind (arith, common_steps) in
     let small : (i : ℕ) → get_or octets i 0 < 256 = λ i. omega (arith, c.type_inv.octets i) in
     sym (ap (flat_map sample_octets) (read ∙ ap (map sample_of) c.as_chunks.ensures.front) ∙ samples_joined (length octets / 2) octets even small)

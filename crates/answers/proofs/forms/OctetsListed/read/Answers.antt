@@ -2,7 +2,7 @@ use Rattle.std.proofs.Common.{◌≡◌, ◌≢◌, ◌*◌, ◌/◌, ◌<◌, l
 use Rattle.std.proofs.lemmas.Grind.{common_steps}
 use Rattle.std.specs.Prelude.{codes}
 use Rattle.answers.proofs.Chunks.{octets_joined, pairs_written, piece_written}
-use Rattle.answers.proofs.forms.VecU8Listed.read.Goals as goal
+use Rattle.answers.proofs.forms.OctetsListed.read.Goals as goal
 
 pub returns-then-is_empty-clause-none : goal.returns-then-is_empty-clause-none
 returns-then-is_empty-clause-none c =
@@ -22,4 +22,4 @@ pub returns-clause-list : goal.returns-clause-list
 returns-clause-list c =
     let pairs : 0 < length c.args.text.now / 2 = grind (arith, common_steps) in
     let even : length c.args.text.now ≡ 2 * (length c.args.text.now / 2) = grind (arith, common_steps) in
-    octets_joined c.loop-pair.octets.items (length c.args.text.now / 2) c.args.text.now even pairs (grind (arith, common_steps))
+    octets_joined c.loop-pair.list.items (length c.args.text.now / 2) c.args.text.now even pairs (grind (arith, common_steps))

@@ -1,0 +1,9 @@
+-- What is done lies in the part.
+use Rattle.std.proofs.Common.{◌≤◌, ◌-◌, length}
+use Rattle.answers.proofs.input.read_full.Given as goal
+
+abbrev pub invariant-loop-done : goal.invariant-loop-done
+invariant-loop-done g l = l.done ≤ length l.part
+
+abbrev pub decreases-loop-done : goal.decreases-loop-done
+decreases-loop-done g l = length l.part - l.done
