@@ -4,6 +4,6 @@ use Rattle.text.specs.declared.law.Law.{Law}
 use Rattle.text.specs.declared.law.Law.TheVariants.{Mu, A}
 use Rattle.vectors.specs.declared.inputs.Input.{Input}
 
-abbrev pub octets_under : Law → Input → List ℕ
-octets_under Mu input = input.mu.items
-octets_under A input = input.a.items
+abbrev pub octets_under : {N : ℕ} → Law → Input N → List ℕ
+octets_under Mu input = input.mu
+octets_under A input = input.a

@@ -1,11 +1,12 @@
 // The codewords that a decoder takes with no encoder before it: the I-inputs, and the held codeword.
-ghost use Rattle.std.specs.Prelude.{◌≡◌, ◌-◌, ◌^◌, ◌<◌, IfOk, All, replicate, vec_len};
+ghost use Rattle.std.specs.Prelude.{◌≡◌, ◌-◌, ◌^◌, ◌<◌, All, replicate};
+ghost use Rattle.arrayvec.specs.ArrayVec.{array_vec_len};
 ghost use Rattle.quantizer.specs.Codeword.{Width, Codeword};
 
-use crate::magnitudes::{at_width, magnitudes};
+use crate::magnitudes::{PLACES, at_width, magnitudes};
 use crate::signs::signs;
+use arrayvec::ArrayVec;
 use quantizer::codeword::half;
-use std::alloc::{AllocError, Global};
 
 // How many bits the codewords of a run have
 #[derive(Clone, Copy)]
@@ -14,19 +15,22 @@ pub struct CodewordWidth {
     ghost is_width: { Width bits },
 }
 
+// The list is lent, as in `magnitudes` and `signs`: one that is returned is on the stack twice.
+//
 // `Codeword` stands in the contracts here and where codewords are played: it ties a codeword to the width of the run that
 // it is for. Of a struct that held both it would be left to say that its width is that run's, so that form is no plainer.
-pub fn i_input(alloc: Global, width: CodewordWidth) -> Result<Vec<u8>, AllocError>
-    ensures codewords { IfOk result (λ v. All (Codeword width.bits) v.items) }
-    ensures count { IfOk result (λ v. vec_len v ≡ 16384) }
+pub fn i_input(codewords: &mut ArrayVec<u8, PLACES>, width: CodewordWidth)
+    ensures codewords { All (Codeword width.bits) codewords.new.items }
+    ensures count { array_vec_len codewords.new ≡ 16384 }
 {
-    let magnitudes = magnitudes(alloc)?;
-    let signs = signs(alloc)?;
-    let mut codewords = Vec::new(alloc);
-    for (magnitude, negative) in magnitudes.iter().zip(&signs) {
-        codewords.push(signed(width, at_width(width, *magnitude), *negative))?;
+    let mut sizes = ArrayVec::new();
+    magnitudes(&mut sizes);
+    let mut negatives = ArrayVec::new();
+    signs(&mut negatives);
+    codewords.clear();
+    for (magnitude, negative) in sizes.iter().zip(&negatives) {
+        codewords.push(signed(width, at_width(width, *magnitude), *negative));
     }
-    Ok(codewords)
 }
 
 fn signed(width: CodewordWidth, magnitude: u8, negative: bool) -> u8
@@ -41,9 +45,9 @@ fn signed(width: CodewordWidth, magnitude: u8, negative: bool) -> u8
 }
 
 // The greatest magnitude, positive
-pub fn held(alloc: Global, width: CodewordWidth) -> Result<Vec<u8>, AllocError>
-    ensures codewords { IfOk result (λ v. All (Codeword width.bits) v.items) }
-    ensures items { IfOk result (λ v. v.items ≡ replicate 2000 (2 ^ (width.bits - 1) - 1)) }
+pub fn held(width: CodewordWidth) -> [u8; 2000]
+    ensures codewords { All (Codeword width.bits) result }
+    ensures items { result ≡ replicate 2000 (2 ^ (width.bits - 1) - 1) }
 {
-    vec![in alloc; half(width.bits) - 1; 2000]
+    [half(width.bits) - 1; 2000]
 }

@@ -2,7 +2,6 @@
 ghost use Rattle.std.specs.Prelude.{◌≡◌};
 ghost use Rattle.vectors.specs.Inputs.{octets_under};
 
-use std::alloc::AllocError;
 use std::fmt;
 use std::fmt::{Display, Formatter};
 use std::fs::File;
@@ -12,17 +11,17 @@ use text::law::Law;
 
 #[derive(Drop)]
 pub struct Inputs {
-    pub normal: Input,
-    pub overload: Input,
-    pub homing: Input,
-    pub jump: Input,
+    pub normal: Input<16384>,
+    pub overload: Input<2048>,
+    pub homing: Input<3496>,
+    pub jump: Input<4096>,
 }
 
-// The same levels under each law
+// The same N levels under each law
 #[derive(Drop)]
-pub struct Input {
-    mu: Vec<u8>,
-    a: Vec<u8>,
+pub struct Input<const N: usize> {
+    mu: [u8; N],
+    a: [u8; N],
 }
 
 // Why there are no inputs
@@ -30,13 +29,6 @@ pub struct Input {
 pub enum Unread {
     Unopened(&'static str, Error),
     WrongLength(&'static str),
-    OutOfMemory(AllocError),
-}
-
-impl From<AllocError> for Unread {
-    fn from(error: AllocError) -> Unread {
-        Unread::OutOfMemory(error)
-    }
 }
 
 impl Display for Unread {
@@ -44,12 +36,24 @@ impl Display for Unread {
         match self {
             Unread::Unopened(name, error) => write!(f, "{name}: {}", Why(*error)),
             Unread::WrongLength(name) => write!(f, "{name}: not as long as docs/SEQUENCES.md says"),
-            Unread::OutOfMemory(error) => write!(f, "{error}"),
         }
     }
 }
 
-impl Input {
+impl<const N: usize> Input<N> {
+    fn blank() -> Self {
+        Input {
+            mu: [0; N],
+            a: [0; N],
+        }
+    }
+
+    // From the two files, which are to be just so long
+    fn read(&mut self, rt: &HostRuntime, mu: &'static str, a: &'static str) -> Result<(), Unread> {
+        fill(rt, mu, &mut self.mu)?;
+        fill(rt, a, &mut self.a)
+    }
+
     pub fn under(&self, law: Law) -> &[u8]
         ensures { result.now ≡ octets_under law self.now }
     {
@@ -61,33 +65,30 @@ impl Input {
 }
 
 impl Inputs {
-    pub fn read(rt: &HostRuntime) -> Result<Inputs, Unread> {
-        Ok(Inputs {
-            normal: both_laws(rt, "nrm.m", "nrm.a", 16384)?,
-            overload: both_laws(rt, "ovr.m", "ovr.a", 2048)?,
-            homing: both_laws(rt, "init.m", "init.a", 3496)?,
-            jump: both_laws(rt, "jump.m", "jump.a", 4096)?,
-        })
+    // What `read` fills. Never inlined: what it takes of the stack beside its result is given back.
+    #[inline(never)]
+    pub fn blank() -> Inputs {
+        Inputs {
+            normal: Input::blank(),
+            overload: Input::blank(),
+            homing: Input::blank(),
+            jump: Input::blank(),
+        }
+    }
+
+    // Into what is lent, as 52,048 octets are not to be moved
+    pub fn read(&mut self, rt: &HostRuntime) -> Result<(), Unread> {
+        self.normal.read(rt, "nrm.m", "nrm.a")?;
+        self.overload.read(rt, "ovr.m", "ovr.a")?;
+        self.homing.read(rt, "init.m", "init.a")?;
+        self.jump.read(rt, "jump.m", "jump.a")
     }
 }
 
-fn both_laws(
-    rt: &HostRuntime,
-    mu: &'static str,
-    a: &'static str,
-    length: usize,
-) -> Result<Input, Unread> {
-    Ok(Input {
-        mu: octets(rt, mu, length)?,
-        a: octets(rt, a, length)?,
-    })
-}
-
-fn octets(rt: &HostRuntime, name: &'static str, length: usize) -> Result<Vec<u8>, Unread> {
-    let mut octets = vec![in rt.alloc(); 0; length]?;
+fn fill(rt: &HostRuntime, name: &'static str, octets: &mut [u8]) -> Result<(), Unread> {
     let mut file = File::open(rt, name).map_err(|error| Unread::Unopened(name, error))?;
-    if is_just(&mut file, &mut octets) {
-        Ok(octets)
+    if is_just(&mut file, octets) {
+        Ok(())
     } else {
         Err(Unread::WrongLength(name))
     }

@@ -1,8 +1,12 @@
 // The magnitudes of the I-inputs at width 4, Table 9 of the ITU's description, and what they become at the other widths.
-ghost use Rattle.std.specs.Prelude.{◌≡◌, ◌-◌, ◌*◌, ◌/◌, ◌^◌, ◌<◌, IfOk, All, vec_len};
+ghost use Rattle.std.specs.Prelude.{◌≡◌, ◌-◌, ◌*◌, ◌/◌, ◌^◌, ◌<◌, All};
+ghost use Rattle.arrayvec.specs.ArrayVec.{array_vec_len};
 
 use crate::codewords::CodewordWidth;
-use std::alloc::{AllocError, Global};
+use arrayvec::ArrayVec;
+
+// How many places an I-input has
+pub const PLACES: usize = 16384;
 
 // In each row sixteen times one magnitude and sixteen times the other in turn, and the row's length
 const ROWS: [(u8, u8, usize); 27] = [
@@ -35,17 +39,16 @@ const ROWS: [(u8, u8, usize); 27] = [
     (1, 6, 256),
 ];
 
-pub fn magnitudes(alloc: Global) -> Result<Vec<u8>, AllocError>
-    ensures small { IfOk result (λ v. All (λ m. m < 8) v.items) }
-    ensures count { IfOk result (λ v. vec_len v ≡ 16384) }
+pub fn magnitudes(magnitudes: &mut ArrayVec<u8, PLACES>)
+    ensures small { All (λ m. m < 8) magnitudes.new.items }
+    ensures count { array_vec_len magnitudes.new ≡ 16384 }
 {
-    let mut magnitudes = Vec::new(alloc);
+    magnitudes.clear();
     for (one, other, length) in &ROWS {
         for place in 0..*length {
-            magnitudes.push(if place / 16 % 2 == 0 { *one } else { *other })?;
+            magnitudes.push(if place / 16 % 2 == 0 { *one } else { *other });
         }
     }
-    Ok(magnitudes)
 }
 
 pub fn at_width(width: CodewordWidth, magnitude: u8) -> u8

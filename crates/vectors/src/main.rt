@@ -1,6 +1,6 @@
 // The test sequences of docs/SEQUENCES.md: with no argument a line of checksums for each of them, with the name of one
 // as the argument a line for each of its samples. The files of PCM octets are looked for in the folder it is run in.
-// What cannot be written is left out. Where there is no memory, that is told and the status is 1; else it is 0.
+// What cannot be written is left out. The program asks for no memory, and its status is 0.
 #![tactic(auto)]
 
 mod codewords;
@@ -17,37 +17,36 @@ mod signs;
 mod tests;
 
 use drive::perform;
-use inputs::{Inputs, Unread};
+use inputs::Inputs;
+use lines::Summary;
 use names::{HELP, is_named};
 use runs::{Run, all_runs};
-use std::alloc::AllocError;
 use std::env::{Env, FillError};
 use std::io::Write;
 
 // No sequence's name is longer; a longer argument is not told.
 const ROOM: usize = 4096;
 
-fn main(rt: HostRuntime) -> Result<(), AllocError> {
-    match Inputs::read(&rt) {
-        Ok(inputs) => run_on(&rt, &inputs),
-        Err(Unread::OutOfMemory(error)) => Err(error),
+fn main(rt: HostRuntime) {
+    let mut inputs = Inputs::blank();
+    match inputs.read(&rt) {
+        Ok(()) => run_on(&rt, &inputs),
         Err(unread) => {
             let _ = eprintln!(rt; "{unread}");
-            Ok(())
         }
     }
 }
 
-fn run_on(rt: &HostRuntime, inputs: &Inputs) -> Result<(), AllocError> {
-    let runs = all_runs(rt.alloc())?;
+fn run_on(rt: &HostRuntime, inputs: &Inputs) {
+    let runs = all_runs();
     let mut name = [0; ROOM];
-    let mut second = [0; ROOM];
+    // Only whether there is one is asked.
+    let mut second = [0; 1];
     match (argument(rt, 1, &mut name), argument(rt, 2, &mut second)) {
         (None, _) => write_runs(rt, &runs, inputs),
         (Some(name), None) => dump(rt, &runs, inputs, name),
         _ => {
             let _ = eprintln!(rt; "the name of one sequence, or none");
-            Ok(())
         }
     }
 }
@@ -60,21 +59,19 @@ fn argument<'a>(rt: &HostRuntime, i: usize, room: &'a mut [u8]) -> Option<&'a [u
     }
 }
 
-fn write_runs(rt: &HostRuntime, runs: &[Run], inputs: &Inputs) -> Result<(), AllocError> {
+fn write_runs(rt: &HostRuntime, runs: &[Run], inputs: &Inputs) {
     for run in runs {
-        let performance = perform(rt.alloc(), *run, inputs)?;
-        let _ = println!(rt; "{run} {performance}");
+        let summary = Summary::of(*run, inputs);
+        let _ = println!(rt; "{run} {summary}");
     }
-    Ok(())
 }
 
-fn dump(rt: &HostRuntime, runs: &[Run], inputs: &Inputs, name: &[u8]) -> Result<(), AllocError> {
+fn dump(rt: &HostRuntime, runs: &[Run], inputs: &Inputs, name: &[u8]) {
     match runs.iter().find(|run| is_named(run, name)) {
         Some(run) => {
-            let performance = perform(rt.alloc(), *run, inputs)?;
-            for (index, sample) in performance.samples.iter().enumerate() {
+            perform(*run, inputs, |index, sample| {
                 let _ = println!(rt; "{index} {sample}");
-            }
+            });
         }
         None => {
             let _ = eprint!(rt; "no sequence is named ");
@@ -82,5 +79,4 @@ fn dump(rt: &HostRuntime, runs: &[Run], inputs: &Inputs, name: &[u8]) -> Result<
             let _ = eprintln!(rt; ": {HELP}");
         }
     }
-    Ok(())
 }

@@ -1,11 +1,14 @@
 // The 189 runs of docs/SEQUENCES.md in its order: all R, then all H, then the jumps, then the held codeword. Within R and
 // H the inputs N, V and I, within these the pairs, within a pair the laws M, A, C and X, or M and A.
-ghost use Rattle.std.specs.Prelude.{◌≡◌, ◌+◌, ◌*◌, length, IfOk, OnOk, vec_len};
+ghost use Rattle.std.specs.Prelude.{◌≡◌, ◌+◌, ◌*◌, ◌≤◌, length};
+ghost use Rattle.arrayvec.specs.ArrayVec.{array_vec_len};
 ghost use Rattle.quantizer.specs.Pair.{Pair};
 ghost use Rattle.vectors.specs.Runs.{laws_count};
 
 use crate::laws::Laws;
-use std::alloc::{AllocError, Global};
+use arrayvec::ArrayVec;
+
+const RUNS: usize = 189;
 
 #[derive(Clone, Copy)]
 pub enum Kind {
@@ -39,6 +42,19 @@ pub struct Run {
     ghost is_pair: { Pair width core },
 }
 
+// The list's first, as the blank that it is made of
+impl Default for Run {
+    fn default() -> Run {
+        Run {
+            homed: false,
+            kind: Kind::Normal,
+            width: 5,
+            core: 2,
+            laws: Laws::Mu,
+        }
+    }
+}
+
 // The nine pairs in their order, each as its width and its core
 const PAIRS: [(u8, u8); 9] = [
     (5, 2),
@@ -52,42 +68,37 @@ const PAIRS: [(u8, u8); 9] = [
     (4, 4),
 ];
 
-pub fn all_runs(alloc: Global) -> Result<Vec<Run>, AllocError>
-    ensures { IfOk result (λ v. vec_len v ≡ 189) }
+pub fn all_runs() -> ArrayVec<Run, RUNS>
+    ensures { array_vec_len result ≡ 189 }
 {
-    let mut runs = Vec::new(alloc);
+    let mut runs = ArrayVec::new();
     for homed in [false, true] {
         for kind in [Kind::Normal, Kind::Overload, Kind::Codewords] {
-            add_pairs(&mut runs, homed, kind)?;
+            add_pairs(&mut runs, homed, kind);
         }
     }
     for core in 2..=4 {
-        add_laws(&mut runs, false, Kind::Jump, 5, core)?;
+        add_laws(&mut runs, false, Kind::Jump, 5, core);
     }
     for core in 2..=4 {
-        add_laws(&mut runs, false, Kind::Held, core, core)?;
+        add_laws(&mut runs, false, Kind::Held, core, core);
     }
-    Ok(runs)
+    runs
 }
 
-fn add_pairs(runs: &mut Vec<Run>, homed: bool, kind: Kind) -> Result<(), AllocError>
-    ensures { OnOk result (vec_len runs.new ≡ vec_len runs.old + 9 * laws_count kind) }
+fn add_pairs(runs: &mut ArrayVec<Run, RUNS>, homed: bool, kind: Kind)
+    requires { array_vec_len runs.old + 9 * laws_count kind ≤ 189 }
+    ensures { array_vec_len runs.new ≡ array_vec_len runs.old + 9 * laws_count kind }
 {
     for (width, core) in PAIRS {
-        add_laws(runs, homed, kind, width, core)?;
+        add_laws(runs, homed, kind, width, core);
     }
-    Ok(())
 }
 
-fn add_laws(
-    runs: &mut Vec<Run>,
-    homed: bool,
-    kind: Kind,
-    width: u8,
-    core: u8,
-) -> Result<(), AllocError>
-    requires { Pair width core }
-    ensures { OnOk result (vec_len runs.new ≡ vec_len runs.old + laws_count kind) }
+fn add_laws(runs: &mut ArrayVec<Run, RUNS>, homed: bool, kind: Kind, width: u8, core: u8)
+    requires pair { Pair width core }
+    requires room { array_vec_len runs.old + laws_count kind ≤ 189 }
+    ensures { array_vec_len runs.new ≡ array_vec_len runs.old + laws_count kind }
 {
     for laws in kind.laws() {
         runs.push(Run {
@@ -96,7 +107,6 @@ fn add_laws(
             width,
             core,
             laws: *laws,
-        })?;
+        });
     }
-    Ok(())
 }

@@ -28,4 +28,4 @@ pub returns-clause-count : goal.returns-clause-count
 returns-clause-count c =
     let at_end : c.loop-one.one-index ≡ 27 = omega arith in
     let whole : length c.loop-one.magnitudes.items + 0 ≡ 16384 = rw at_end at c.loop-one.invariant.2 in
-    omega (arith, c.loop-one.magnitudes.ok.0, whole)
+    omega (arith, whole)
