@@ -1,8 +1,9 @@
 // The lines of the input, each without its end, in a window that holds the longest of them and its end. The window is filled before a line
 // in it is given, and all lines in it are given before more is read: whoever writes a window of lines can leave the answers for later.
-ghost use Rattle.std.specs.Prelude.{◌≤◌, length};
+ghost use Rattle.std.specs.Prelude.{◌≡◌, ◌-◌, ◌≤◌, ◌↔◌, length, IsTrue};
 
 use crate::unanswered::Unanswered;
+use memchr::memchr;
 use std::io::Read;
 
 // In characters
@@ -59,7 +60,7 @@ impl<'a, R: Read> Lines<'a, R> {
             let (from, to) = (self.from, self.to);
             let window = &*self.window;
             let held = &window[from..to];
-            match held.iter().position(|octet| *octet == b'\n') {
+            match memchr(b'\n', held) {
                 Some(n) => return (from + n, long),
                 None if !self.more => break,
                 None => long = self.refill() || long,
@@ -69,7 +70,10 @@ impl<'a, R: Read> Lines<'a, R> {
     }
 
     // More of the input behind what is held. A full window holds no line's end, so its line is too long and is let go; answers whether it was.
-    fn refill(&mut self) -> bool {
+    fn refill(&mut self) -> bool
+        ensures full { IsTrue result ↔ (self.old.to - self.old.from ≡ length self.old.window.now) }
+        ensures let_go { IsTrue result → self.new.from ≡ self.new.to }
+    {
         let (from, to) = (self.from, self.to);
         let held = to - from;
         if held == self.window.len() {

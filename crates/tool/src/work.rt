@@ -35,7 +35,7 @@ struct Turn {
 }
 
 pub fn perform(rt: &HostRuntime, task: Task) -> Status {
-    // Not on the heap: no task takes memory.
+    // Not on the heap, so that drop cannot run out of memory.
     let mut room = [0; LIST_ROOM];
     match Job::begin(rt, task, &mut room) {
         Ok(job) => {
