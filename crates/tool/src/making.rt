@@ -40,7 +40,7 @@ pub struct Made {
     pub state: State,
 }
 
-// Why a piece is refused, and the state that the refused call hands back; of a call that has none, the one before it
+// Why a piece is refused, and of decode the state that the refused call hands back. Of the others it is the one before, which nobody is told.
 #[derive(Clone, Copy)]
 pub struct Refused {
     pub refusal: Refusal,
